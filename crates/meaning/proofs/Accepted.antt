@@ -1,0 +1,177 @@
+-- What an accepted problem is: its events lie below n, its bounds and its sizes within their limits. Assumes nothing.
+use mathlib.Core.Path.{_≡_, refl, ap, _∙_}
+use mathlib.Core.Bool.{Bool, true, false, cond, _&&_}
+use mathlib.Core.List.{List, [], _∷_, _++_}
+use Prim.Native.Nat.{ℕ, zero, suc, _+_, _-_, _*_, _/_, _%_, _<_, _≤_}
+use native.Mathlib.Nat.{not-suc-le-zero, le-of-suc-le-suc}
+use native.Mathlib.Omega.{arith}
+use lib.Dec.{T, leb, ltb, eqb, leb→le, ltb→lt, eqb→eq}
+use lib.IntN.{ℤ, pos, negsuc, natAbs}
+use lib.Signed.{leZ, ltZ}
+use lib.ListN.{length, getD, take, drop, length-take, length-drop}
+use Rattle.meaning.specs.Limits.{mostEvents, mostClauses, mostInClause, mostAlternatives, mostBound}
+use Rattle.meaning.specs.Problem.{Alternative, Clause}
+use Rattle.meaning.specs.Plain.{Selection, nowhere, chosen}
+use Rattle.meaning.specs.Screen.{Lent, Input, alternatives, parted, clausesOf, stepped, events, bounds, isEvent, isBound, problemTests, planTests, firstFailed, problemRefusal, refusal}
+use Rattle.meaning.proofs.Booleans.{both-left, both-right}
+use Rattle.meaning.proofs.Settling.{Each, In}
+use Rattle.meaning.proofs.Rows.{Short}
+
+-- ---- tests that are all passed
+abbrev pub Passed : List Bool → Type 0
+Passed [] = Unit {0}
+Passed (b ∷ more) = T b × Passed more
+
+pub all-passed : (i : ℕ) (bs : List Bool) → 0 < i → firstFailed i bs ≡ 0 → Passed bs
+unfolding firstFailed
+all-passed i [] l e = tt
+all-passed i (true ∷ more) l e = (tt, all-passed (suc i) more (omega arith) e)
+all-passed i (false ∷ more) l e = absurd (contra l e)
+  where
+    contra : 0 < i → i ≡ 0 → ⊥
+    contra h k = omega arith
+
+pub none-failed : (i : ℕ) (bs : List Bool) → Passed bs → firstFailed i bs ≡ 0
+unfolding firstFailed
+none-failed i [] p = refl
+none-failed i (true ∷ more) p = none-failed (suc i) more (p .1)
+none-failed i (false ∷ more) p = absurd (p .0)
+
+pub passed-both : (bs ds : List Bool) → Passed bs → Passed ds → Passed (bs ++ ds)
+passed-both [] ds p q = q
+passed-both (b ∷ bs) ds p q = (p .0, passed-both bs ds (p .1) q)
+
+passed-front : (bs ds : List Bool) → Passed (bs ++ ds) → Passed bs
+passed-front [] ds p = tt
+passed-front (b ∷ bs) ds p = (p .0, passed-front bs ds (p .1))
+
+-- tests put after others change nothing where the first ones are not all passed
+pub front-first : (i : ℕ) (bs ds : List Bool) → 0 < firstFailed i bs → firstFailed i (bs ++ ds) ≡ firstFailed i bs
+unfolding firstFailed
+front-first i [] ds l = absurd (not-suc-le-zero l)
+front-first i (true ∷ bs) ds l = front-first (suc i) bs ds l
+front-first i (false ∷ bs) ds l = refl
+
+-- a call that `plan` takes has an accepted problem
+pub plan-problem : (i : Input) → refusal i ≡ 0 → problemRefusal (i .lent) ≡ 0
+unfolding refusal problemRefusal
+plan-problem i e = none-failed 1 (problemTests (i .lent)) (passed-front (problemTests (i .lent)) (planTests i) (all-passed 1 _ (omega arith) e))
+
+-- ---- every alternative of every clause
+abbrev pub Every : (Alternative → Type 0) → List Clause → Type 0
+Every P [] = Unit {0}
+Every P (c ∷ cs) = Each P c × Every P cs
+
+-- the bound lies within its limits
+abbrev pub Bounded : Alternative → Type 0
+Bounded a = natAbs (a .c) ≤ mostBound
+
+module _ (P : Alternative → Type 0) where
+  each-at : (c : Clause) (i : ℕ) → i < length c → Each P c → P (getD c i nowhere)
+  each-at [] i l h = absurd (not-suc-le-zero l)
+  each-at (a ∷ more) zero l h = h .0
+  each-at (a ∷ more) (suc i) l h = each-at more i (le-of-suc-le-suc l) (h .1)
+
+  -- and so of every alternative of a selection
+  pub chosen-each : (cs : List Clause) (p : List ℕ) → Every P cs → Selection cs p → Each P (chosen cs p)
+  chosen-each [] p w s = tt
+  chosen-each (c ∷ cs) [] w s = absurd s
+  chosen-each (c ∷ cs) (i ∷ p) w s = (each-at c i (s .0) (w .0), chosen-each cs p (w .1) (s .1))
+
+  each-take : (k : ℕ) (fs : List Alternative) → Each P fs → Each P (take k fs)
+  each-take zero fs h = tt
+  each-take (suc k) [] h = tt
+  each-take (suc k) (a ∷ more) h = (h .0, each-take k more (h .1))
+
+  each-drop : (k : ℕ) (fs : List Alternative) → Each P fs → Each P (drop k fs)
+  each-drop zero fs h = h
+  each-drop (suc k) [] h = tt
+  each-drop (suc k) (a ∷ more) h = each-drop k more (h .1)
+
+  parted-every : (from : ℕ) (counts : List ℕ) (fs : List Alternative) → Each P fs → Every P (parted from counts fs)
+  unfolding parted
+  parted-every from [] fs h = tt
+  parted-every from (e ∷ counts) fs h =
+      (each-take (e - from) fs h, parted-every e counts (drop (e - from) fs) (each-drop (e - from) fs h))
+
+-- ---- from the tests to the facts
+below-n : (n : ℕ) (x : ℤ) → T (isEvent n x) → natAbs x < n
+below-n n (pos k) t = ltb→lt k n (both-right (leb 0 k) (ltb k n) t)
+below-n n (negsuc k) t = absurd t
+
+alternatives-in : (n j : ℕ) (xs : List ℤ) → T (events (isEvent n) xs) → Each (In n) (alternatives j xs)
+unfolding alternatives events
+alternatives-in n j [] t = tt
+alternatives-in n j (x ∷ []) t = tt
+alternatives-in n j (x ∷ (y ∷ [])) t = tt
+alternatives-in n j (x ∷ (y ∷ (c ∷ more))) t =
+    let E : Bool = events (isEvent n) more in
+    let X : Bool = isEvent n x in
+    let Y : Bool = isEvent n y in
+    ((below-n n x (both-left X Y (both-left (X && Y) E t)), below-n n y (both-right X Y (both-left (X && Y) E t))), alternatives-in n (suc j) more (both-right (X && Y) E t))
+
+alternatives-bounded : (j : ℕ) (xs : List ℤ) → T (bounds isBound xs) → Each Bounded (alternatives j xs)
+unfolding alternatives bounds
+alternatives-bounded j [] t = tt
+alternatives-bounded j (x ∷ []) t = tt
+alternatives-bounded j (x ∷ (y ∷ [])) t = tt
+alternatives-bounded j (x ∷ (y ∷ (c ∷ more))) t =
+    (leb→le (natAbs c) mostBound (both-left (isBound c) (bounds isBound more) t), alternatives-bounded (suc j) more (both-right (isBound c) (bounds isBound more) t))
+
+parted-short : (last from : ℕ) (counts : List ℕ) (fs : List Alternative) → T (stepped last from counts) → Short (parted from counts fs)
+unfolding parted stepped
+parted-short last from [] fs t = tt
+parted-short last from (e ∷ counts) fs t =
+    let A : Bool = leb from e in
+    let B : Bool = leb e (from + mostInClause) in
+    let h : e ≤ from + mostInClause = leb→le e (from + mostInClause) (both-right A B (both-left (A && B) (stepped last e counts) t)) in
+    (omega (arith, length-take (e - from) fs), parted-short last e counts (drop (e - from) fs) (both-right (A && B) (stepped last e counts) t))
+
+pub parted-length : (from : ℕ) (counts : List ℕ) (fs : List Alternative) → length (parted from counts fs) ≡ length counts
+unfolding parted
+parted-length from [] fs = refl
+parted-length from (e ∷ counts) fs = ap suc (parted-length e counts (drop (e - from) fs))
+
+-- how many alternatives there are in all
+unfoldable pub sizes : List Clause → ℕ
+sizes [] = 0
+sizes (c ∷ cs) = length c + sizes cs
+
+parted-sizes : (from : ℕ) (counts : List ℕ) (fs : List Alternative) → sizes (parted from counts fs) ≤ length fs
+unfolding parted sizes
+parted-sizes from [] fs = omega arith
+parted-sizes from (e ∷ counts) fs =
+    omega (arith, parted-sizes e counts (drop (e - from) fs), length-take (e - from) fs, length-drop (e - from) fs)
+
+alternatives-length : (j : ℕ) (xs : List ℤ) → length (alternatives j xs) * 3 ≤ length xs
+unfolding alternatives
+alternatives-length j [] = omega arith
+alternatives-length j (x ∷ []) = omega arith
+alternatives-length j (x ∷ (y ∷ [])) = omega arith
+alternatives-length j (x ∷ (y ∷ (c ∷ more))) = omega (arith, alternatives-length (suc j) more)
+
+pub record Accepted (l : Lent) : Type 0 where
+  pub taken : problemRefusal l ≡ 0
+  pub some : 1 ≤ l .n
+  pub most : l .n ≤ mostEvents
+  pub within : Every (In (l .n)) (clausesOf l)
+  pub bounded : Every Bounded (clausesOf l)
+  pub short : Short (clausesOf l)
+  pub few : length (clausesOf l) ≤ mostClauses
+  pub all : sizes (clausesOf l) ≤ mostAlternatives
+
+pub accepted : (l : Lent) → problemRefusal l ≡ 0 → Accepted l
+unfolding problemRefusal problemTests clausesOf
+accepted l e =
+    let p = all-passed 1 _ (omega arith) e in
+    let given : List Alternative = alternatives 0 (l .triples) in
+    record {
+      taken = e;
+      some = leb→le 1 (l .n) (both-left (leb 1 (l .n)) (leb (l .n) mostEvents) (p .0));
+      most = leb→le (l .n) mostEvents (both-right (leb 1 (l .n)) (leb (l .n) mostEvents) (p .0));
+      within = parted-every (In (l .n)) 0 (l .counts) given (alternatives-in (l .n) 0 (l .triples) (p .1 .1 .1 .1 .0));
+      bounded = parted-every Bounded 0 (l .counts) given (alternatives-bounded 0 (l .triples) (p .1 .1 .1 .1 .1 .0));
+      short = parted-short _ 0 (l .counts) given (p .1 .1 .1 .0);
+      few = omega (arith, parted-length 0 (l .counts) given, leb→le (length (l .counts)) mostClauses (p .1 .0));
+      all = omega (arith, parted-sizes 0 (l .counts) given, alternatives-length 0 (l .triples), leb→le (length (l .triples)) (3 * mostAlternatives) (both-right (eqb (length (l .triples) % 3) 0) (leb (length (l .triples)) (3 * mostAlternatives)) (p .1 .1 .0)));
+    }

@@ -1,0 +1,127 @@
+-- The days of 01 with all their numbers, as the table is lent them: one table, one claim, which antt computes. Assumes nothing.
+use mathlib.Core.Path.{_≡_, refl}
+use mathlib.Core.List.{List, [], _∷_, _++_, map}
+use Prim.Native.Nat.{ℕ, _+_}
+use lib.IntN.{ℤ, pos, negℤ}
+use lib.ListN.{replicate, length}
+use Rattle.meaning.specs.declared.Answer.{Answer}
+use Rattle.meaning.specs.declared.Answer.the-variants.{Plan, None, Unlisted, Stopped, Refused}
+use Rattle.meaning.specs.declared.Verdict.{Verdict}
+use Rattle.meaning.specs.declared.Verdict.the-variants.{Yes, No}
+use Rattle.meaning.specs.Limits.{rowBytes, blankByte}
+use Rattle.meaning.specs.Problem.{Alternative, opposite, satisfied}
+use Rattle.meaning.specs.Plain.{product}
+use Rattle.meaning.specs.Decision.{ask, raise, round, rounds, least, settled, soundBy, latestOf, reach, sound}
+use Rattle.meaning.specs.Search.{Row, mark, cycle, enter, look, later, andThen, branch, dead, firstDead, search}
+use Rattle.meaning.specs.Reasons.{named, given, walk, loops, numbers, blank, filled, cycleOver, same, markRow, kind, cycleRows, front, reading, andRead, eachRead, read, cut, rowsOf, allBlank, ends, isReading}
+use Rattle.meaning.specs.Screen.{Lent, Input, alternatives, parted, clausesOf, stepped, events, bounds, problemTests, planTests, firstFailed, problemRefusal, refusal, Screen, cleared, listed, shown, decided, screen}
+use Rattle.meaning.specs.Verdicts.{verdict, reasonsVerdict, some, keeps, timetableRefusal, timetableVerdict}
+use Rattle.meaning.specs.Lamps.{forced, lampsOf, joined, bits, ones, firstLit, lit, panelOf, dark, shownPanel, panel}
+
+abbrev pub minus : ℕ → ℤ
+minus n = negℤ (pos n)
+
+-- the alternative x,y,c
+abbrev alt : ℕ → ℕ → ℤ → List ℤ
+alt x y c = pos x ∷ pos y ∷ c ∷ []
+
+abbrev lent : ℕ → List ℤ → List ℕ → Lent
+lent n triples counts = record { n = n; triples = triples; counts = counts }
+
+-- lent with an allowance, and room for a timetable of n + 2 times, one pick more than clauses, and so many bytes of reasons
+abbrev call : Lent → ℕ → ℕ → Input
+call l allowance room = record { lent = l; allowance = allowance; times = l .n + 2; picks = length (l .counts) + 1; room = room }
+
+abbrev pub usual : Lent → Input
+usual l = call l 1000 100000
+
+-- what is seen of a day: the answer, the lent timetable and picks, the rows (a mark's byte, or the facts that a cycle may name), and the lamps with their number
+pub record Seen : Type 0 where
+  pub answer : Answer
+  pub times : List ℤ
+  pub picks : List ℕ
+  pub rows : List (List ℕ)
+  pub lamps : ℕ
+  pub total : ℕ
+
+pub record Day : Type 0 where
+  pub input : Input
+  pub expected : Seen
+
+abbrev day : Input → Answer → List ℤ → List ℕ → List (List ℕ) → ℕ → ℕ → Day
+day i a t p r l k = record { input = i; expected = record { answer = a; times = t; picks = p; rows = r; lamps = l; total = k } }
+
+pub rowSeen : Row → List ℕ
+rowSeen (mark b) = b ∷ []
+rowSeen (cycle fs) = map (λ (a : Alternative). a .no) fs
+
+unfoldable pub seen : Input → Seen
+seen i =
+    record {
+      answer = screen i .answer;
+      times = screen i .times;
+      picks = screen i .picks;
+      rows = map rowSeen (screen i .rows);
+      lamps = panel (i .lent) .lit;
+      total = panel (i .lent) .total;
+    }
+
+abbrev pub d1 : Lent
+d1 = lent 2 (alt 0 1 (minus 30)) (1 ∷ [])
+
+abbrev pub d2 : Lent
+d2 = lent 4 (alt 2 1 (pos 6) ++ alt 0 3 (pos 4) ++ alt 2 0 (pos 1) ++ alt 3 0 (minus 5) ++ alt 0 2 (minus 2) ++ alt 1 2 (minus 7)) (2 ∷ 4 ∷ 6 ∷ [])
+
+abbrev pub d4 : Lent
+d4 = lent 2 (alt 0 1 (minus 1) ++ alt 1 0 (minus 1)) (1 ∷ 2 ∷ [])
+
+abbrev pub d8 : Lent
+d8 = lent 2 (alt 0 1 (pos 5) ++ alt 1 0 (minus 5)) (1 ∷ 2 ∷ [])
+
+-- the timetable and the picks where there is no plan
+abbrev ones-of : ℕ → List ℤ
+ones-of n = replicate (n + 2) (pos 1)
+
+abbrev blanks-of : ℕ → List ℕ
+blanks-of m = replicate (m + 1) blankByte
+
+unfoldable pub days : List Day
+days =
+    day (usual d1) (Plan 2 0) (minus 30 ∷ pos 0 ∷ pos 1 ∷ pos 1 ∷ []) (0 ∷ 255 ∷ []) [] 1 1
+    ∷ day (usual d2) (Plan 5 2) (minus 2 ∷ pos 0 ∷ pos 0 ∷ minus 7 ∷ pos 1 ∷ pos 1 ∷ []) (0 ∷ 1 ∷ 0 ∷ 255 ∷ []) [] 63 6
+    ∷ day (call d2 4 100000) (Stopped 4 2) (ones-of 4) (blanks-of 3) [] 63 6
+    ∷ day (call d2 0 100000) (Stopped 0 0) (ones-of 4) (blanks-of 3) [] 63 6
+    ∷ day (usual d4) (None 2 1 3) (ones-of 2) (blanks-of 2) ((240 ∷ []) ∷ (201 ∷ []) ∷ (1 ∷ 0 ∷ []) ∷ []) 0 0
+    ∷ day (call d4 1000 47) (Unlisted 2 1 3) (ones-of 2) (blanks-of 2) [] 0 0
+    ∷ day (call d4 1000 48) (None 2 1 3) (ones-of 2) (blanks-of 2) ((240 ∷ []) ∷ (201 ∷ []) ∷ (1 ∷ 0 ∷ []) ∷ []) 0 0
+    ∷ day (usual (lent 1 (alt 0 0 (minus 1)) (1 ∷ []))) (None 1 1 2) (ones-of 1) (blanks-of 1) ((200 ∷ []) ∷ (0 ∷ []) ∷ []) 0 0
+    ∷ day (usual (lent 1 (alt 0 0 (pos 0)) (1 ∷ []))) (Plan 2 0) (pos 0 ∷ pos 1 ∷ pos 1 ∷ []) (0 ∷ 255 ∷ []) [] 1 1
+    ∷ day (usual (lent 3 [] [])) (Plan 1 0) (pos 0 ∷ pos 0 ∷ pos 0 ∷ pos 1 ∷ pos 1 ∷ []) (255 ∷ []) [] 0 0
+    ∷ day (usual (lent 1 [] (0 ∷ []))) (None 1 0 1) (ones-of 1) (blanks-of 1) ((200 ∷ []) ∷ []) 0 0
+    ∷ day (usual d8) (Plan 3 0) (pos 0 ∷ minus 5 ∷ pos 1 ∷ pos 1 ∷ []) (0 ∷ 0 ∷ 255 ∷ []) [] 3 2
+    ∷ day (usual (lent 2 (alt 0 1 (pos 5) ++ alt 1 0 (minus 6)) (1 ∷ 2 ∷ []))) (None 2 1 3) (ones-of 2) (blanks-of 2) ((240 ∷ []) ∷ (201 ∷ []) ∷ (1 ∷ 0 ∷ []) ∷ []) 0 0
+    ∷ day (usual (lent 3 (alt 0 1 (minus 10) ++ alt 1 2 (minus 3) ++ alt 0 1 (minus 5)) (1 ∷ 3 ∷ []))) (Plan 3 0) (minus 13 ∷ minus 3 ∷ pos 0 ∷ pos 1 ∷ pos 1 ∷ []) (0 ∷ 0 ∷ 255 ∷ []) [] 7 3
+    ∷ day (usual (lent 2 (alt 0 1 (minus 1) ++ alt 0 1 (minus 1) ++ alt 1 0 (pos 0)) (2 ∷ 3 ∷ []))) (None 2 2 4) (ones-of 2) (blanks-of 2) ((240 ∷ []) ∷ (201 ∷ []) ∷ (2 ∷ 0 ∷ []) ∷ (1 ∷ 64 ∷ []) ∷ []) 4 1
+    ∷ day (usual (lent 2 (alt 0 1 (pos 100000)) (1 ∷ []))) (Plan 2 0) (pos 0 ∷ pos 0 ∷ pos 1 ∷ pos 1 ∷ []) (0 ∷ 255 ∷ []) [] 1 1
+    ∷ day (usual (lent 2 (alt 0 1 (pos 100001)) (1 ∷ []))) (Refused 6) (ones-of 2) (blanks-of 1) [] 0 0
+    ∷ day (usual (lent 16 [] [])) (Plan 1 0) (replicate 16 (pos 0) ++ pos 1 ∷ pos 1 ∷ []) (255 ∷ []) [] 0 0
+    ∷ day (usual (lent 17 [] [])) (Refused 1) (ones-of 17) (blanks-of 0) [] 0 0
+    ∷ []
+
+pub days-hold : map (λ (d : Day). seen (d .input)) days ≡ map (λ (d : Day). d .expected) days
+unfolding days seen rowSeen screen decided shown listed cleared refusal problemRefusal problemTests planTests firstFailed bounds events stepped clausesOf parted alternatives panel shownPanel panelOf dark lit lampsOf joined bits ones firstLit forced search branch andThen later look enter firstDead dead sound reach soundBy settled latestOf least rounds round raise ask opposite product
+days-hold = refl
+
+-- D4's three rows, with either cycle, and 4 bytes of room more
+pub d4-list : ℕ → ℕ → List ℕ
+d4-list a b = (240 ∷ replicate 15 255) ++ (201 ∷ replicate 15 255) ++ (a ∷ b ∷ replicate 14 255) ++ replicate 4 255
+
+-- "0, 1 (or 1, 0)": both are read yes, and a cycle of one arc is not
+pub d4-read : map (reasonsVerdict d4) (d4-list 0 1 ∷ d4-list 1 0 ∷ d4-list 0 255 ∷ []) ≡ Yes ∷ Yes ∷ No ∷ []
+unfolding d4-list reasonsVerdict verdict problemRefusal problemTests firstFailed bounds events stepped clausesOf parted alternatives isReading ends allBlank rowsOf cut read eachRead andRead reading front cycleRows kind markRow same cycleOver filled blank numbers loops walk given named opposite
+d4-read = refl
+
+-- the timetable of D1 is read yes, and one a minute late is not
+pub d1-read : map (timetableVerdict d1) ((minus 30 ∷ pos 0 ∷ []) ∷ (minus 29 ∷ pos 0 ∷ []) ∷ []) ≡ Yes ∷ No ∷ []
+unfolding timetableVerdict timetableRefusal verdict problemTests firstFailed bounds events stepped clausesOf parted alternatives keeps some satisfied
+d1-read = refl

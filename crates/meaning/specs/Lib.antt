@@ -1,0 +1,9 @@
+pub mod Limits
+pub mod Problem
+pub mod Plain
+pub mod Decision
+pub mod Search
+pub mod Reasons
+pub mod Screen
+pub mod Verdicts
+pub mod Lamps

@@ -1,0 +1,16 @@
+-- The claims besides the contracts stand in `Claims`, `Numbers`, `Refusals` and `Worked`; the other files lead to them and to the functions' proofs.
+pub mod Whole
+pub mod Word
+pub mod Floor
+pub mod Exactly
+pub mod Readings
+pub mod Bits
+pub mod Grid
+pub mod Bounds
+pub mod Spans
+pub mod Quotient
+pub mod Rates
+pub mod Claims
+pub mod Numbers
+pub mod Refusals
+pub mod Worked

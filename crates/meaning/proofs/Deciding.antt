@@ -111,11 +111,11 @@ of-meets M t σ a p q h =
     subst (λ (z : ℤ). T (leZ z (a .c))) (sym (ap₂ _-ℤ_ p q ∙ apart M (σ (a .x)) (σ (a .y))))
     (of-ask (σ (a .y)) (σ (a .x)) (a .c) h)
 
-satisfies-each : (t : Timetable) (fs : List Alternative) → Satisfies t fs → Each (λ a. T (satisfied t a)) fs
+pub satisfies-each : (t : Timetable) (fs : List Alternative) → Satisfies t fs → Each (λ a. T (satisfied t a)) fs
 satisfies-each t [] h = tt
 satisfies-each t (a ∷ more) h = (h .0, satisfies-each t more (h .1))
 
-each-satisfies : (t : Timetable) (fs : List Alternative) → Each (λ a. T (satisfied t a)) fs → Satisfies t fs
+pub each-satisfies : (t : Timetable) (fs : List Alternative) → Each (λ a. T (satisfied t a)) fs → Satisfies t fs
 each-satisfies t [] h = tt
 each-satisfies t (a ∷ more) h = (h .0, each-satisfies t more (h .1))
 

@@ -118,7 +118,7 @@ unfolding rounds
 rounds-length zero fs s = refl
 rounds-length (suc k) fs s = rounds-length k fs (round fs s) ∙ round-length fs s
 
-zero-at : (n e : ℕ) → at (replicate n 0) e ≡ 0
+pub zero-at : (n e : ℕ) → at (replicate n 0) e ≡ 0
 zero-at zero e = refl
 zero-at (suc n) zero = refl
 zero-at (suc n) (suc e) = zero-at n e

@@ -1,0 +1,9 @@
+pub mod Pigeon
+pub mod Rounding
+pub mod Tables
+pub mod Walking
+pub mod Rows
+pub mod Deciding
+pub mod Joining
+pub mod Adding
+pub mod Claims

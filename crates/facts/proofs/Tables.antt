@@ -1,0 +1,63 @@
+-- A table of the rounds' times, row by row, and a fact that raises an event between two rows. Assumes nothing.
+use Prim.Native.Nat.{ℕ, suc, _+_, _*_, _-_, _≤_, _<_, max}
+use mathlib.Core.Path.{_≡_, sym, ap, _∙_}
+use mathlib.Core.Bool.{false}
+use mathlib.Core.List.{List, []}
+use native.Mathlib.Omega.{arith}
+use native.Mathlib.Numerals.{add-one}
+use native.Mathlib.Decide.{decLe}
+use lib.Dec.{eqb}
+use lib.ListN.{length, getD, set}
+use lib.Seq.{getD-set-same, getD-set-other}
+use borrow.Author.Tests.{eqb-true, eqb-false}
+use Rattle.problem.specs.Arcs.{bias, at, Net, head, tail, bound}
+use Rattle.facts.specs.Tests.{Within}
+use Rattle.facts.specs.Rounds.{relax, upto, round, rows, Rounds}
+use Rattle.facts.specs.Walk.{Raises, Says}
+use Rattle.facts.proofs.Rounding.{rows-bounded}
+
+-- a turn of a round's loop
+pub upto-more : (g : Net) (L s nxt : List ℕ) (i j x y r : ℕ) → nxt ≡ upto g L s i → j ≡ at L i → x ≡ head g j → y ≡ tail g j → r ≡ max (at nxt x) (at s y + bias - bound g j) → set nxt x r ≡ upto g L s (i + 1)
+unfolding upto relax
+upto-more g L s nxt i j x y r a b c d e = rw (add-one i) (cc)
+
+module _ (g : Net) (L z : List ℕ) (t : List (List ℕ)) where
+  pub rounds-first : getD t 0 [] ≡ z → (k : ℕ) → k ≤ 0 → Rounds g L z k t
+  unfolding rows
+  rounds-first e k l = record { row = λ i h. let q : i ≡ 0 = omega arith in rw q e }
+
+  -- a turn of the table's loop
+  pub rounds-more : (k : ℕ) → Rounds g L z k t → k + 1 < length t → (r : List ℕ) → r ≡ round g L (getD t k []) → Rounds g L z (k + 1) (set t (k + 1) r)
+  rounds-more k h l r e = record { row = λ i b. go i b (decLe i k) }
+    where
+      new : r ≡ rows g L z (suc k)
+      new = e ∙ unfold rows in ap (λ (s : List ℕ). round g L s) (h .row k (omega arith))
+
+      go : (i : ℕ) → i ≤ k + 1 → Dec (i ≤ k) → getD (set t (k + 1) r) i [] ≡ rows g L z i
+      go i b (yes c) = getD-set-other t (k + 1) i r [] (omega arith) ∙ h .row i c
+      go i b (no c) = let q : i ≡ k + 1 = omega arith in rw q (getD-set-same t (k + 1) r [] l ∙ new ∙ ap (λ (m : ℕ). rows g L z m) (sym (add-one k)))
+
+  -- fewer rounds
+  pub rounds-fewer : (k n : ℕ) → Rounds g L z k t → n ≤ k → Rounds g L z n t
+  rounds-fewer k n h l = record { row = λ i b. h .row i (omega arith) }
+
+  -- no row of w rounds at the most lies more than w times the bias above the start
+  pub rounds-small : (w m : ℕ) → Within g L w → w ≤ length z → ((v : ℕ) → at z v ≤ m) → (n k : ℕ) → Rounds g L z n t → k ≤ n → n ≤ w → (v : ℕ) → at (getD t k []) v ≤ m + w * bias
+  rounds-small w m b long u n k h l q v = rw (h .row k l) (omega (arith, rows-bounded g L w b z long m u k v))
+
+-- a table's rounds start from its first row
+pub started : (g : Net) (L s : List ℕ) (n : ℕ) (t : List (List ℕ)) → Rounds g L s n t → s ≡ getD t 0 []
+unfolding rows
+started g L s n t h = sym (h .row 0 (omega arith))
+
+module _ (g : Net) (s r : List ℕ) (v j x y : ℕ) (p : x ≡ head g j) (q : y ≡ tail g j) where
+  pub says-raises : x ≡ v → Says (Raises g s r v j) (eqb (at s y + bias) (at r v + bound g j))
+  says-raises e =
+      let f : at s y ≡ at s (tail g j) = ap (λ (u : ℕ). at s u) q in
+      record {
+        yes = λ h. record { heads = sym p ∙ e; exact = omega (arith, eqb-true (at s y + bias) (at r v + bound g j) h) };
+        no = λ h k. eqb-false (at s y + bias) (at r v + bound g j) h (omega (arith, k .exact));
+      }
+
+  pub says-apart : (x ≡ v → ⊥) → Says (Raises g s r v j) false
+  says-apart e = record { yes = λ h. let z : _≡_ {A = ℕ} 0 1 = cc in absurd (omega arith); no = λ h k. e (p ∙ k .heads) }

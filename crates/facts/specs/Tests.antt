@@ -1,0 +1,34 @@
+-- What the test of a set of facts asks and says: 01, "a standing is sound if some timetable satisfies its facts", "its latest timetable", and the cycle rows of "The list of reasons".
+-- The facts are arc numbers, the times minutes before closing. Definitions only.
+use mathlib.Core.Path.{_≡_}
+use mathlib.Core.Bool.{Bool, true, false}
+use mathlib.Core.List.{List}
+use Prim.Native.Nat.{ℕ, _+_, _*_, _-_, _≤_, _<_}
+use lib.ListN.{length, take, replicate}
+use Rattle.meaning.specs.Limits.{mostEvents, mostAlternatives, rowBytes, blankByte}
+use Rattle.meaning.specs.Problem.{Alternative}
+use Rattle.meaning.specs.Decision.{sound, least}
+use Rattle.meaning.specs.Search.{cycle}
+use Rattle.meaning.specs.Reasons.{Writes}
+use Rattle.problem.specs.Arcs.{Net, bias, at, Arc}
+
+-- no test from the extra source gives a time further before closing: as many arcs as lead to all the other events, each with the least bound of an opposite
+abbrev pub farthest : ℕ
+farthest = (mostEvents - 1) * bias
+
+-- the places of a buffer of facts: one for each alternative or its opposite, and one for an arc that is tested with them
+abbrev pub places : ℕ
+places = mostAlternatives + 1
+
+-- the facts L are arcs of the net, over n events; and the net has no more arcs than there are alternatives and opposites
+pub record Within (g : Net) (L : List ℕ) (n : ℕ) : Type 0 where
+  pub each : (i : ℕ) → i < length L → Arc g n (at L i)
+  pub few : length (g .xs) ≤ 2 * mostAlternatives
+
+-- the answer of a test of the facts fs over n events: whether they are sound; if so the latest timetable and no row, if not a cycle row over them
+pub record Tests (fs : List Alternative) (n : ℕ) (ok : Bool) (times row : List ℕ) : Type 0 where
+  pub decides : ok ≡ sound fs
+  pub latest : ok ≡ true → take n times ≡ least n fs
+  pub small : (e : ℕ) → at times e ≤ farthest
+  pub names : ok ≡ false → Writes rowBytes (cycle fs) row
+  pub blank : ok ≡ true → row ≡ replicate rowBytes blankByte

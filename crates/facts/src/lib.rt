@@ -1,0 +1,96 @@
+// The test of a set of facts, by rounds from an extra source (001): the latest timetable, or a cycle of facts below 0.
+// Arcs come in three slices by their numbers, facts as arc numbers; times are minutes before closing.
+mod rounds;
+mod walk;
+
+use rounds::rising;
+use rounds::table;
+use walk::repeat;
+use walk::row_of;
+use walk::walk_back;
+ghost use Prim.Native.Nat.{ℕ, _≤_};
+ghost use mathlib.Core.List.{_∷_, map};
+ghost use lib.ListN.{drop};
+ghost use Rattle.meaning.specs.Limits.{mostEvents};
+ghost use Rattle.problem.specs.Arcs.{at, net, arc, Arc};
+ghost use Rattle.facts.specs.Tests.{farthest, places, Within, Tests};
+ghost use Rattle.facts.specs.Rounds.{Under};
+ghost use Rattle.facts.specs.Walk.{TestsFrom};
+
+// The most events, and the bytes of a row.
+pub const EVENTS: usize = 16;
+
+// The places of a buffer of facts: one for each alternative or its opposite, and one for an arc that is tested with them.
+pub const PLACES: usize = 65;
+
+// What fills a row after its numbers.
+const BLANK: u8 = 255;
+
+pub struct Tested {
+    pub ok: bool,
+    pub times: [u32; EVENTS],
+    pub row: [u8; EVENTS],
+}
+
+// The test from times that lie under every timetable of the facts.
+fn test_from(
+    xs: &[u8],
+    ys: &[u8],
+    bs: &[u32],
+    facts: &[u8],
+    n: usize,
+    start: [u32; EVENTS],
+) -> Tested
+    requires { ⌜ Within (net (now xs) (now ys) (now bs)) (now facts) n × (1 ≤ n) × (n ≤ mostEvents) × ((v : ℕ) → at start v ≤ farthest) × Under (net (now xs) (now ys) (now bs)) (now facts) start ⌝ }
+    ensures { λ r. ⌜ TestsFrom (net (now (xs .entry)) (now (ys .entry)) (now (bs .entry))) (now (facts .entry)) start mostEvents n (r .ok) (r .times) (r .row) ⌝ }
+{
+    let t = table(xs, ys, bs, facts, n, start);
+    let last = t[n];
+    let before = t[n - 1];
+    let v = rising(before, last);
+    if v < EVENTS {
+        let w = walk_back(xs, ys, bs, facts, t, n, v as u8);
+        let nodes = w.nodes;
+        let arcs = w.arcs;
+        let p = repeat(nodes, n);
+        let row = row_of(arcs, p.first, p.more);
+        Tested {
+            ok: false,
+            times: before,
+            row,
+        }
+    } else {
+        Tested {
+            ok: true,
+            times: before,
+            row: [BLANK; EVENTS],
+        }
+    }
+}
+
+// The test of a set of facts: the latest timetable in minutes before closing, or a cycle below 0.
+pub fn test(xs: &[u8], ys: &[u8], bs: &[u32], facts: &[u8], n: usize) -> Tested
+    requires { ⌜ Within (net (now xs) (now ys) (now bs)) (now facts) n × (1 ≤ n) × (n ≤ mostEvents) ⌝ }
+    ensures { λ r. ⌜ Tests (map (arc (net (now (xs .entry)) (now (ys .entry)) (now (bs .entry)))) (now (facts .entry))) n (r .ok) (r .times) (r .row) ⌝ }
+{
+    test_from(xs, ys, bs, facts, n, [0; EVENTS])
+}
+
+// The test of the facts from place `at` of the buffer on, with arc j before them.
+pub fn test_with(
+    xs: &[u8],
+    ys: &[u8],
+    bs: &[u32],
+    buffer: [u8; PLACES],
+    at: usize,
+    j: u8,
+    n: usize,
+) -> Tested
+    requires { ⌜ Within (net (now xs) (now ys) (now bs)) (drop at buffer) n × Arc (net (now xs) (now ys) (now bs)) n j × (1 ≤ at) × (at ≤ places) × (1 ≤ n) × (n ≤ mostEvents) ⌝ }
+    ensures { λ r. ⌜ Tests (arc (net (now (xs .entry)) (now (ys .entry)) (now (bs .entry))) j ∷ map (arc (net (now (xs .entry)) (now (ys .entry)) (now (bs .entry)))) (drop at buffer)) n (r .ok) (r .times) (r .row) ⌝ }
+{
+    let mut all = buffer;
+    let first = at - 1;
+    all[first] = j;
+    test(xs, ys, bs, &all[first..], n)
+}

@@ -1,0 +1,35 @@
+-- A loop that writes a list t over d, one store a turn: after n turns the first n elements are t's and the rest is d's. Assumes nothing.
+use mathlib.Core.Path.{_≡_, refl, sym, ap, _∙_}
+use mathlib.Core.List.{List, [], _∷_, _++_, map, append-nil}
+use Prim.Native.Nat.{ℕ, zero, suc, _+_, _-_, _<_, _≤_}
+use native.Mathlib.Numerals.{add-one}
+use native.Mathlib.Omega.{arith}
+use lib.ListN.{getD, take, length, set, drop, replicate, drop-of-length-le}
+use lib.Seq.{paste, paste-suc, take-all}
+
+module _ {A : Type 0} where
+  -- written from a place on
+  pub copy-more : (from n : ℕ) (v z : A) (s t d : List A) → s ≡ paste d from t n → from + n < length d → n < length t → v ≡ getD t n z → set s (from + n) v ≡ paste d from t (n + 1)
+  copy-more from n v z s t d e l m q = rw (e, q, add-one) (paste-suc d from t n z l m)
+
+  -- written from the front
+  pub write-more : (n : ℕ) (v z : A) (s t d : List A) → s ≡ take n t ++ drop n d → n < length t → n < length d → v ≡ getD t n z → set s n v ≡ take (n + 1) t ++ drop (n + 1) d
+  write-more n v z s t d e l m q =
+      let at : 0 + n ≡ n = omega arith in
+      let past : 0 + (n + 1) ≡ n + 1 = omega arith in
+      let first : s ≡ paste d 0 t n = e ∙ ap (λ (k : ℕ). take n t ++ drop k d) (sym at) in
+      ap (λ (k : ℕ). set s k v) (sym at) ∙ copy-more 0 n v z s t d first (omega arith) l q ∙ ap (λ (k : ℕ). take (n + 1) t ++ drop k d) past
+
+  -- written to the end
+  pub written : (n : ℕ) (s t d : List A) → s ≡ take n t ++ drop n d → length t ≤ n → length d ≤ n → s ≡ t
+  written n s t d e l m = e ∙ rw (take-all n t l, drop-of-length-le d m) (append-nil t)
+
+  pub drop-replicate : (n k : ℕ) (v : A) → drop n (replicate k v) ≡ replicate (k - n) v
+  drop-replicate zero k v = let q : k ≡ k - 0 = omega arith in ap (λ (j : ℕ). replicate j v) q
+  drop-replicate (suc n) zero v = let q : 0 ≡ 0 - suc n = omega arith in ap (λ (j : ℕ). replicate j v) q
+  drop-replicate (suc n) (suc k) v = let q : k - n ≡ suc k - suc n = omega arith in drop-replicate n k v ∙ ap (λ (j : ℕ). replicate j v) q
+
+pub take-map : {A B : Type 0} (f : A → B) (n : ℕ) (d : List A) → take n (map f d) ≡ map f (take n d)
+take-map f zero d = refl
+take-map f (suc n) [] = refl
+take-map {A} {B} f (suc n) (x ∷ d) = ap (λ (l : List B). f x ∷ l) (take-map f n d)

@@ -1,0 +1,81 @@
+// Leaves over lent memory: fills, copies, and signed numbers read into naturals and written from them. Nothing here knows of planning.
+ghost use mathlib.Core.Path.{_≡_};
+ghost use mathlib.Core.List.{_++_, map};
+ghost use Prim.Native.Nat.{ℕ, _+_, _<_, _≤_};
+ghost use lib.ListN.{length, replicate, getD, take, drop};
+ghost use lib.IntN.{ℤ, pos, negℤ, natAbs, _+ℤ_, _-ℤ_};
+ghost use lib.Signed.{leZ};
+ghost use Rattle.lent.specs.Sizes.{width, mostNegated, signedEnd};
+
+// How many numbers `put_negated` takes.
+pub const WIDTH: usize = 16;
+
+// All numbers of the slice become v.
+pub fn fill_numbers(s: &mut [i32], v: i32)
+    ensures { λ _. ⌜ now (s .exit) ≡ replicate (length (now (s .entry))) v ⌝ }
+{
+    let mut i = 0;
+    while i < s.len() {
+        s[i] = v;
+        i += 1;
+    }
+}
+
+// All bytes of the slice become v.
+pub fn fill_bytes(s: &mut [u8], v: u8)
+    ensures { λ _. ⌜ now (s .exit) ≡ replicate (length (now (s .entry))) v ⌝ }
+{
+    let mut k = 0;
+    while k < s.len() {
+        s[k] = v;
+        k += 1;
+    }
+}
+
+// The bytes stand in the slice from a place on; what was before them and after them stays.
+pub fn put_bytes(s: &mut [u8], from: usize, bytes: &[u8])
+    requires { ⌜ from + length (now bytes) ≤ length (now s) ⌝ }
+    ensures { λ _. ⌜ now (s .exit) ≡ take from (now (s .entry)) ++ (now (bytes .entry) ++ drop (from + length (now (bytes .entry))) (now (s .entry))) ⌝ }
+{
+    let mut i = 0;
+    while i < bytes.len() {
+        s[from + i] = bytes[i];
+        i += 1;
+    }
+}
+
+// The number −m.
+fn negated(m: u32) -> i32
+    requires { ⌜ m ≤ mostNegated ⌝ }
+    ensures { λ r. ⌜ r ≡ negℤ (pos m) ⌝ }
+{
+    0 - (m as i32)
+}
+
+// The first n numbers of the slice become −d[0], −d[1] and so on; what was after them stays.
+pub fn put_negated(s: &mut [i32], n: usize, d: [u32; WIDTH])
+    requires { ⌜ (n ≤ width) × (n ≤ length (now s)) ⌝ }
+    requires { ⌜ ((k : ℕ) → getD d k 0 ≤ mostNegated) ⌝ }
+    ensures { λ _. ⌜ now (s .exit) ≡ map (λ (m : ℕ). negℤ (pos m)) (take n d) ++ drop n (now (s .entry)) ⌝ }
+{
+    let mut i = 0;
+    while i < n {
+        s[i] = negated(d[i]);
+        i += 1;
+    }
+}
+
+// The natural number c + by, where it is one and in range.
+pub fn lifted(c: i32, by: u32) -> u32
+    requires { ⌜ (by < signedEnd) × ((b : ℕ) × ((c +ℤ pos by ≡ pos b) × (b < signedEnd))) ⌝ }
+    ensures { λ r. ⌜ r ≡ natAbs (c +ℤ pos by) ⌝ }
+{
+    (c + (by as i32)) as u32
+}
+
+// Whether a − b is at most c, at any 32-bit numbers.
+pub fn within(a: i32, b: i32, c: i32) -> bool
+    ensures { λ r. ⌜ r ≡ leZ (a -ℤ b) c ⌝ }
+{
+    (a as i64) - (b as i64) <= (c as i64)
+}

@@ -1,0 +1,4 @@
+pub mod Arcs
+pub mod Laid
+pub mod Reads
+pub mod Loaded

@@ -160,7 +160,7 @@ whole-clause c cs fs r (stopped b s p) (j, q, e, k) =
     subst (λ (m : ℕ). Halted (c ∷ cs) fs m p) (omega arith)
     (subst (λ (l : List ℕ). Halted (c ∷ cs) fs b l) (sym (e ∙ ap (λ (m : ℕ). m ∷ q) (omega arith))) k)
 
-unsound-first : (b r : Bool) → cond b false r ≡ true → (b ≡ false) × (r ≡ true)
+pub unsound-first : (b r : Bool) → cond b false r ≡ true → (b ≡ false) × (r ≡ true)
 unsound-first true r e = absurd (never (cc))
 unsound-first false r e = (refl, e)
 

@@ -30,13 +30,13 @@ take-blanks zero k = tt
 take-blanks (suc n) zero = tt
 take-blanks (suc n) (suc k) = take-blanks n k
 
-drop-blanks : (n k : ℕ) → drop n (replicate k blankByte) ≡ replicate (k - n) blankByte
+pub drop-blanks : (n k : ℕ) → drop n (replicate k blankByte) ≡ replicate (k - n) blankByte
 drop-blanks zero k = rw (let p : k - 0 ≡ k = omega arith in p)
 drop-blanks (suc n) zero = rw (let p : 0 - suc n ≡ 0 = omega arith in p)
 drop-blanks (suc n) (suc k) = rw (let p : suc k - suc n ≡ k - n = omega arith in p) (drop-blanks n k)
 
 module _ (W : ℕ) (wide : 0 < W) where
-  writes-length : (x : Row) (row : List ℕ) → Writes W x row → length row ≡ W
+  pub writes-length : (x : Row) (row : List ℕ) → Writes W x row → length row ≡ W
   unfolding markRow
   writes-length (mark b) row e = ap length e ∙ ap suc (length-replicate (W - 1) blankByte) ∙ omega arith
   writes-length (cycle fs) row w = w .0

@@ -118,7 +118,7 @@ front-append W (x ∷ r) s rows rest (row, tail, e, w, h) =
     (mid, (row, tail, e, w, f), g)
 
 module _ (W : ℕ) where
-  down : List Clause → ℕ → List Alternative → Rows → Option Rows
+  unfoldable pub down : List Clause → ℕ → List Alternative → Rows → Option Rows
   down [] k fs rs = none
   down (c ∷ cs) k fs rs = eachRead W (λ f r. read W cs (suc k) f r) c fs rs
 
@@ -127,7 +127,7 @@ module _ (W : ℕ) where
   read-is [] k fs row rows = refl
   read-is (c ∷ cs) k fs row rows = refl
 
-  read-kind : (cs : List Clause) (k : ℕ) (fs : List Alternative) (row : List ℕ) (rows : Rows) (kd : Kind) → kind W row ≡ kd → read W cs k fs (row ∷ rows) ≡ front W kd cs k fs row rows (down cs k fs)
+  pub read-kind : (cs : List Clause) (k : ℕ) (fs : List Alternative) (row : List ℕ) (rows : Rows) (kd : Kind) → kind W row ≡ kd → read W cs k fs (row ∷ rows) ≡ front W kd cs k fs row rows (down cs k fs)
   read-kind cs k fs row rows kd e = read-is cs k fs row rows ∙ ap (λ (x : Kind). front W x cs k fs row rows (down cs k fs)) e
 
   cycles-read : (fs : List Alternative) (c : Clause) (rows rest : Rows) → Front W (map (λ a. cycle (a ∷ fs)) c) rows rest → cycleRows W fs c rows ≡ some rest

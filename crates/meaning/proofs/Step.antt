@@ -63,7 +63,7 @@ module _ (sound : List Alternative → Bool) where
       again-is re go 0 j c fs v l
       ∙ ap (λ (m : ℕ). andThen m (re (taking j c fs) v) (λ w. branch go (suc m) (drop (suc j) c) (beyond j c fs) w)) (omega arith)
 
-  resume-none : (cs : List Clause) (k : ℕ) (fs : List Alternative) (v : ℕ) → resume sound cs k [] fs v ≡ search sound cs k fs v
+  pub resume-none : (cs : List Clause) (k : ℕ) (fs : List Alternative) (v : ℕ) → resume sound cs k [] fs v ≡ search sound cs k fs v
   unfolding resume
   resume-none [] k fs v = refl
   resume-none (c ∷ cs) k fs v = refl
@@ -88,7 +88,7 @@ module _ (sound : List Alternative → Bool) where
       ∙ andThen-later j n r (plug cs (suc k) p (taking j c fs) o) _
 
   -- what is left after a standing that is closed
-  pub onward : List Clause → ℕ → Option (List ℕ) → List Alternative → ℕ → Outcome
+  unfoldable pub onward : List Clause → ℕ → Option (List ℕ) → List Alternative → ℕ → Outcome
   onward cs k (some q) fs w = resume sound cs k q fs w
   onward cs k none fs w = closed 0 [] w
 
@@ -133,7 +133,7 @@ module _ (sound : List Alternative → Bool) where
       s′ : Standing cs p
       s′ = s .1
 
-  closed-later : (n : ℕ) (r : List Row) (w : ℕ) → closed n r w ≡ later n r (closed 0 [] w)
+  pub closed-later : (n : ℕ) (r : List Row) (w : ℕ) → closed n r w ≡ later n r (closed 0 [] w)
   unfolding later
   closed-later n r w = ap₂ (λ (m : ℕ) (s : List Row). closed m s w) (omega arith) (sym (append-nil r))
 

@@ -1,0 +1,10 @@
+pub mod Bytes
+pub mod Rows
+pub mod Marks
+pub mod Walking
+pub mod Clauses
+pub mod Standings
+pub mod Readings
+pub mod Turns
+pub mod Keeping
+pub mod Saying

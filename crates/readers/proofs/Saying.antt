@@ -1,0 +1,65 @@
+-- The verdicts by their refusals: 1 to 6 of the problem, then 8 of a timetable shorter than n. Assumes nothing.
+use mathlib.Core.Path.{_≡_, refl, sym, ap, _∙_}
+use mathlib.Core.Bool.{Bool, true, false}
+use mathlib.Core.List.{List, [], _∷_, _++_}
+use Prim.Native.Nat.{ℕ, zero, suc, _+_, _<_, _≤_}
+use native.Mathlib.Nat.{pos-of-ne-zero}
+use native.Mathlib.Omega.{arith}
+use borrow.Author.Tests.{le-leb, lt-leb}
+use lib.Dec.{leb}
+use lib.IntN.{ℤ}
+use lib.ListN.{length}
+use Rattle.meaning.specs.declared.Verdict.the-variants.{Refused}
+use Rattle.meaning.specs.Limits.{rowBytes}
+use Rattle.meaning.specs.Plain.{timesOf}
+use Rattle.meaning.specs.Reasons.{isReading}
+use Rattle.meaning.specs.Screen.{Lent, clausesOf, problemTests, firstFailed, problemRefusal}
+use Rattle.meaning.specs.Verdicts.{verdict, reasonsVerdict, keeps, timetableRefusal, timetableVerdict}
+use Rattle.meaning.proofs.Accepted.{Passed, all-passed, front-first}
+use Rattle.problem.specs.declared.Problem.{Problem}
+use Rattle.problem.specs.Laid.{clausesIn}
+use Rattle.problem.specs.Reads.{Reads}
+
+refused : (r : ℕ) (b : Bool) → (r ≡ 0 → ⊥) → verdict r b ≡ Refused r
+unfolding verdict
+refused zero b n = absurd (n refl)
+refused (suc r) b n = refl
+
+-- tests after others that are passed
+passed-over : (i : ℕ) (bs ds : List Bool) → Passed bs → firstFailed i (bs ++ ds) ≡ firstFailed (i + length bs) ds
+unfolding firstFailed
+passed-over i [] ds p = let e : i ≡ i + 0 = omega arith in ap (λ (j : ℕ). firstFailed j ds) e
+passed-over i (true ∷ bs) ds p = let e : suc i + length bs ≡ i + suc (length bs) = omega arith in passed-over (suc i) bs ds (p .1) ∙ ap (λ (j : ℕ). firstFailed j ds) e
+passed-over i (false ∷ bs) ds p = absurd (p .0)
+
+module _ (l : Lent) (r : ℕ) (e : r ≡ problemRefusal l) where
+  -- a refused problem
+  module _ (n : r ≡ 0 → ⊥) where
+    pub reasons-refused : (list : List ℕ) → Refused r ≡ reasonsVerdict l list
+    unfolding reasonsVerdict
+    reasons-refused list = sym (rw (← e) (refused r (isReading rowBytes (clausesOf l) list) n))
+
+    pub timetable-refused : (times : List ℤ) → Refused r ≡ timetableVerdict l times
+    unfolding timetableVerdict timetableRefusal problemRefusal
+    timetable-refused times =
+        let o : 0 < firstFailed 1 (problemTests l) = rw (← e) (pos-of-ne-zero n) in
+        sym (rw (front-first 1 (problemTests l) (true ∷ leb (l .n) (length times) ∷ []) o, ← e) (refused r (keeps (timesOf times) (clausesOf l)) n))
+
+  -- an accepted one
+  module _ (z : r ≡ 0) (p : Problem) (w : Reads l p) where
+    pub reasons-said : (list : List ℕ) → verdict 0 (isReading rowBytes (clausesIn p) list) ≡ reasonsVerdict l list
+    unfolding reasonsVerdict
+    reasons-said list = rw (← e, z, w .clauses) refl
+
+    shorter : (times : List ℤ) → timetableRefusal l times ≡ firstFailed 7 (true ∷ leb (l .n) (length times) ∷ [])
+    unfolding timetableRefusal problemRefusal problemTests
+    shorter times = passed-over 1 (problemTests l) (true ∷ leb (l .n) (length times) ∷ []) (all-passed 1 (problemTests l) (omega arith) (sym e ∙ z))
+
+    module _ (times : List ℤ) where
+      pub timetable-short : length times < p .n → Refused 8 ≡ timetableVerdict l times
+      unfolding timetableVerdict firstFailed verdict
+      timetable-short h = rw (shorter times, lt-leb (l .n) (length times) (omega (arith, w .events))) refl
+
+      pub timetable-said : p .n ≤ length times → verdict 0 (keeps (timesOf times) (clausesIn p)) ≡ timetableVerdict l times
+      unfolding timetableVerdict firstFailed
+      timetable-said h = rw (shorter times, le-leb (l .n) (length times) (omega (arith, w .events)), w .clauses) refl

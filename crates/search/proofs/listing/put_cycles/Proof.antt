@@ -1,0 +1,137 @@
+-- `search::listing::put_cycles` meets its contract: the cycle rows of the alternatives passed are kept, and those to come are dead. Assumes nothing.
+use mathlib.Core.Path.{_≡_, refl, sym, ap, _∙_, subst}
+use mathlib.Core.Bool.{true, false}
+use mathlib.Core.List.{List, [], _∷_, _++_, map}
+use Prim.Native.Nat.{ℕ, _+_, _-_, _<_, _≤_}
+use native.Mathlib.Omega.{arith}
+use native.Mathlib.Numerals.{add-one}
+use lib.ListN.{length, length-map}
+use borrow.Author.Needs.{needs}
+use Rattle.meaning.specs.Problem.{Alternative}
+use Rattle.meaning.specs.Decision.{sound}
+use Rattle.meaning.specs.Search.{Row, cycle, dead}
+use Rattle.problem.specs.Arcs.{Net, at, arc, arcsFrom}
+use Rattle.problem.specs.Laid.{arcs, sizeOf, clauseOf}
+use Rattle.problem.proofs.Laying.{arcs-length, clause-last, clause-ends, size-most}
+use Rattle.held.specs.Held.{factsIn}
+use Rattle.search.specs.Listing.{Keeps}
+use Rattle.search.proofs.Dead.{dead-all}
+use Rattle.search.proofs.Keeping.{keeps-none, keep-cycle, put-length}
+use Rattle.search.proofs.listing.put_cycles.Statement.{statement}
+use Rattle.search.proofs.listing.put_cycles.Tie as tie
+use Rattle.search.proofs.listing.put_cycles.Reads as reads
+use Rattle.search.proofs.listing.put_cycles.Lts as lts
+use Rattle.held.proofs.tested_with.Reads as tested-with-reads
+use Rattle.search.proofs.listing.put_row.Reads as put-row-reads
+
+none-kept : (bytes : List ℕ) (count : ℕ) (g : Net) (j : ℕ) (fs : List Alternative) → Keeps bytes bytes count (map (λ a. cycle (a ∷ fs)) (arcsFrom g j 0))
+unfolding arcsFrom
+none-kept bytes count g j fs = keeps-none bytes count
+
+abbrev Inv-loop : tie.InvT-loop
+Inv-loop p f d reasons₀ rows end j₀ k₀ reasons j k = Keeps reasons₀ reasons rows (map (λ a. cycle (a ∷ factsIn p f)) (arcsFrom (arcs p) j₀ (j - j₀))) × (length reasons ≡ length reasons₀) × (k ≡ rows + (j - j₀)) × (j₀ ≤ j) × (j ≤ end) × (dead sound (factsIn p f) (arcsFrom (arcs p) j (end - j)) ≡ true)
+
+abbrev μ-loop : tie.MeasureT-loop
+μ-loop p f d reasons₀ rows end j₀ k₀ reasons j k = end - j
+
+add-end : tie.Need-add-end Inv-loop μ-loop
+add-end c = omega (arith, c .before .before .pre .0 .few)
+
+array-read-end : tie.Need-array-read-end Inv-loop μ-loop
+array-read-end c = omega (arith, c .before .before .pre .0 .few)
+
+array-read-j : tie.Need-array-read-j Inv-loop μ-loop
+array-read-j c = omega (arith, c .before .before .pre .0 .few)
+
+loop-holds : tie.Need-loop-holds Inv-loop μ-loop
+loop-holds c =
+    let s = c .before .before in
+    let last : at (s .args .p .starts) (s .args .d + 1) ≡ at (s .args .p .starts) (s .args .d) + sizeOf (s .args .p) (s .args .d) = ap (at (s .args .p .starts)) (add-one _) ∙ clause-last (s .args .p) (s .pre .0) (s .args .d) (s .pre .2) in
+    let most = size-most (s .args .p) (s .pre .0) (s .args .d) (s .pre .2) in
+    let ends = clause-ends (s .args .p) (s .pre .0) (s .args .d) (s .pre .2) in (
+      subst (λ (n : ℕ). Keeps (s .args .reasons .now) (s .args .reasons .now) (s .args .rows) (map (λ a. cycle (a ∷ factsIn (s .args .p) (s .args .f))) (arcsFrom (arcs (s .args .p)) (at (s .args .p .starts) (s .args .d)) n))) (let e : 0 ≡ at (s .args .p .starts) (s .args .d) - at (s .args .p .starts) (s .args .d) = omega arith in e) (none-kept (s .args .reasons .now) (s .args .rows) (arcs (s .args .p)) (at (s .args .p .starts) (s .args .d)) (factsIn (s .args .p) (s .args .f))),
+      refl,
+      omega arith,
+      omega arith,
+      omega arith,
+      ap (λ (e : ℕ). dead sound (factsIn (s .args .p) (s .args .f)) (arcsFrom (arcs (s .args .p)) (at (s .args .p .starts) (s .args .d)) (at (s .args .p .starts) e - at (s .args .p .starts) (s .args .d)))) (add-one (s .args .d)) ∙ s .pre .3,
+    )
+
+tested-with-requires : tie.Need-tested-with-requires Inv-loop μ-loop
+tested-with-requires c κs =
+    let s = c .before .before .before .before in
+    let last : at (s .args .p .starts) (s .args .d + 1) ≡ at (s .args .p .starts) (s .args .d) + sizeOf (s .args .p) (s .args .d) = ap (at (s .args .p .starts)) (add-one _) ∙ clause-last (s .args .p) (s .pre .0) (s .args .d) (s .pre .2) in
+    let most = size-most (s .args .p) (s .pre .0) (s .args .d) (s .pre .2) in
+    let ends = clause-ends (s .args .p) (s .pre .0) (s .args .d) (s .pre .2) in
+    (s .pre .0, s .pre .1, s .pre .0 .alternative (c .before .loop .j) (omega arith))
+
+put-row-requires : tie.Need-put-row-requires Inv-loop μ-loop
+put-row-requires c κs =
+    let s = c .before .before .before .before .before .before .before in
+    let last : at (s .args .p .starts) (s .args .d + 1) ≡ at (s .args .p .starts) (s .args .d) + sizeOf (s .args .p) (s .args .d) = ap (at (s .args .p .starts)) (add-one _) ∙ clause-last (s .args .p) (s .pre .0) (s .args .d) (s .pre .2) in
+    let most = size-most (s .args .p) (s .pre .0) (s .args .d) (s .pre .2) in
+    let ends = clause-ends (s .args .p) (s .pre .0) (s .args .d) (s .pre .2) in
+    omega (arith, s .pre .4)
+
+add-k : tie.Need-add-k Inv-loop μ-loop
+add-k c =
+    let s = c .before .before .before .before .before .before .before .before .before .before in
+    let last : at (s .args .p .starts) (s .args .d + 1) ≡ at (s .args .p .starts) (s .args .d) + sizeOf (s .args .p) (s .args .d) = ap (at (s .args .p .starts)) (add-one _) ∙ clause-last (s .args .p) (s .pre .0) (s .args .d) (s .pre .2) in
+    let most = size-most (s .args .p) (s .pre .0) (s .args .d) (s .pre .2) in
+    let ends = clause-ends (s .args .p) (s .pre .0) (s .args .d) (s .pre .2) in
+    omega (arith, s .pre .4)
+
+add-j : tie.Need-add-j Inv-loop μ-loop
+add-j c =
+    let s = c .before .before .before .before .before .before .before .before .before .before in
+    let last : at (s .args .p .starts) (s .args .d + 1) ≡ at (s .args .p .starts) (s .args .d) + sizeOf (s .args .p) (s .args .d) = ap (at (s .args .p .starts)) (add-one _) ∙ clause-last (s .args .p) (s .pre .0) (s .args .d) (s .pre .2) in
+    let most = size-most (s .args .p) (s .pre .0) (s .args .d) (s .pre .2) in
+    let ends = clause-ends (s .args .p) (s .pre .0) (s .args .d) (s .pre .2) in
+    omega (arith, s .pre .0 .last)
+
+loop-less : tie.Need-loop-less Inv-loop μ-loop
+loop-less c = omega arith
+
+loop-again : tie.Need-loop-again Inv-loop μ-loop
+loop-again c =
+    let s = c .before .before .before .before .before .before .before .before .before .before in
+    let l = c .before .before .before .before .before .before .before .loop in
+    let both = dead-all (factsIn (s .args .p) (s .args .f)) (arcs (s .args .p)) (l .j) (at (s .args .p .starts) (s .args .d + 1)) (c .before .before .before .before .before .before .loop-test .taken) (l .inv .5) in
+    let t = c .before .before .before .before .before .tested-with in
+    let w = t .ensures .names (t .ensures .decides ∙ both .0) in (
+      subst (λ (r : List ℕ). Keeps (s .args .reasons .now) r (s .args .rows) (map (λ a. cycle (a ∷ factsIn (s .args .p) (s .args .f))) (arcsFrom (arcs (s .args .p)) (at (s .args .p .starts) (s .args .d)) (l .j + 1 - at (s .args .p .starts) (s .args .d))))) (sym (c .before .before .put-row .ensures)) (keep-cycle (s .args .reasons .now) (l .reasons) (s .args .rows) (l .k) (at (s .args .p .starts) (s .args .d)) (l .j) (arcs (s .args .p)) (factsIn (s .args .p) (s .args .f)) (t .result .row) (l .inv .0) (l .inv .1) (l .inv .2) (l .inv .3) w),
+      ap length (c .before .before .put-row .ensures) ∙ put-length (l .reasons) (l .k) (t .result .row) (w .0) ∙ l .inv .1,
+      omega arith,
+      omega arith,
+      omega arith,
+      both .1,
+    )
+
+same-length : tie.Need-same-length Inv-loop μ-loop
+same-length c = c .before .loop .inv .1
+
+returns : tie.Need-returns Inv-loop μ-loop
+returns c =
+    let s = c .before .before .before .before in
+    let l = c .before .loop in
+    let over : at (s .args .p .starts) (s .args .d + 1) ≡ l .j = omega arith in
+    (subst (λ (e : ℕ). Keeps (s .args .reasons .now) (l .reasons) (s .args .rows) (map (λ a. cycle (a ∷ factsIn (s .args .p) (s .args .f))) (arcsFrom (arcs (s .args .p)) (at (s .args .p .starts) (s .args .d)) (e - at (s .args .p .starts) (s .args .d))))) (sym over ∙ ap (at (s .args .p .starts)) (add-one (s .args .d))) (l .inv .0), omega (arith, ap (at (s .args .p .starts)) (add-one (s .args .d))))
+
+pub put-cycles-spec : {M : Type 1} → statement M
+put-cycles-spec =
+    tie.close
+    (tie.spec
+    Inv-loop
+    μ-loop
+    add-end
+    array-read-end
+    array-read-j
+    loop-holds
+    tested-with-requires
+    put-row-requires
+    add-k
+    add-j
+    loop-less
+    loop-again
+    same-length
+    returns)

@@ -1,0 +1,4 @@
+pub mod Standing
+pub mod Places
+pub mod Listing
+pub mod Steps

@@ -1,0 +1,59 @@
+// Rows of the list of reasons, written to lent memory as long as they fit.
+use held::Facts;
+use problem::Problem;
+ghost use mathlib.Core.Path.{_≡_};
+ghost use mathlib.Core.Bool.{true};
+ghost use mathlib.Core.List.{_∷_, map};
+ghost use Prim.Native.Nat.{_+_, _<_, _≤_};
+ghost use Rattle.meaning.specs.Limits.{rowBytes};
+ghost use Rattle.meaning.specs.Decision.{sound};
+ghost use Rattle.meaning.specs.Search.{dead, cycle};
+ghost use Rattle.meaning.specs.Reasons.{markRow};
+ghost use Rattle.problem.specs.Laid.{Laid, sizeOf, clauseOf};
+ghost use Rattle.held.specs.Held.{factsIn, Ready};
+ghost use Rattle.search.specs.Listing.{putRow, Keeps};
+ghost use Rattle.search.specs.Steps.{mostRows};
+
+// The bytes of a row, and what fills it.
+const ROW: usize = 16;
+
+const BLANK: u8 = 255;
+
+// A mark row.
+pub fn mark_row(first: u8) -> [u8; 16]
+    ensures { λ r. ⌜ r ≡ markRow rowBytes first ⌝ }
+{
+    let mut row = [BLANK; 16];
+    row[0] = first;
+    row
+}
+
+// Row number `rows` of the list, where there is room for it.
+pub fn put_row(reasons: &mut [u8], rows: usize, row: [u8; 16])
+    requires { ⌜ rows ≤ mostRows ⌝ }
+    ensures { λ _. ⌜ now (reasons .exit) ≡ putRow (now (reasons .entry)) rows row ⌝ }
+{
+    let from = rows * ROW;
+    if from + ROW <= reasons.len() {
+        lent::put_bytes(reasons, from, &row);
+    }
+}
+
+// The cycle rows of the dead clause d, from row number `rows` on; the number of the row after them.
+pub fn put_cycles(p: Problem, f: Facts, d: usize, reasons: &mut [u8], rows: usize) -> usize
+    requires { ⌜ Laid p × Ready p f × (d < p .m) × (dead sound (factsIn p f) (clauseOf p d) ≡ true) × (rows + 4 ≤ mostRows) ⌝ }
+    ensures { λ r. ⌜ Keeps (now (reasons .entry)) (now (reasons .exit)) rows (map (λ a. cycle (a ∷ factsIn p f)) (clauseOf p d)) × (r ≡ rows + sizeOf p d) ⌝ }
+{
+    let starts = p.starts;
+    let end = starts[d + 1];
+    let mut j = starts[d];
+    let mut k = rows;
+    while j < end {
+        let t = held::tested_with(p, f, j);
+        let row = t.row;
+        put_row(reasons, k, row);
+        k += 1;
+        j += 1;
+    }
+    k
+}

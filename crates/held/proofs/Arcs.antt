@@ -1,17 +1,14 @@
 -- Lists of arc numbers of a problem, and a buffer filled from the back. Assumes nothing.
-use mathlib.Core.Path.{_≡_, refl, sym, ap, _∙_}
+use mathlib.Core.Path.{_≡_, ap, _∙_}
 use mathlib.Core.List.{List, [], _∷_}
-use Prim.Native.Nat.{ℕ, zero, suc, _+_, _-_, _<_, _≤_}
+use Prim.Native.Nat.{ℕ, zero, suc, _-_, _<_, _≤_}
 use native.Mathlib.Nat.{not-suc-le-zero, le-of-suc-le-suc}
 use native.Mathlib.Omega.{arith}
 use lib.ListN.{length, drop, set}
 use Rattle.problem.specs.declared.Problem.{Problem}
 use Rattle.problem.specs.Arcs.{at, Arc}
 use Rattle.problem.specs.Laid.{arcs}
-use Rattle.facts.specs.Tests.{Within}
 use Rattle.facts.proofs.Adding.{put-before}
-use Rattle.held.specs.declared.Facts.{Facts}
-use Rattle.held.specs.Held.{held, Ready}
 
 -- what is stored before place `at` comes first
 pub put-down : (l : List ℕ) (at v : ℕ) → 0 < at → at ≤ length l → drop (at - 1) (set l (at - 1) v) ≡ v ∷ drop at l

@@ -1,5 +1,4 @@
 -- What a buffer of facts holds, and what their tests ask of it. Definitions only.
-use mathlib.Core.Path.{_≡_}
 use mathlib.Core.List.{List, map}
 use Prim.Native.Nat.{ℕ, _≤_}
 use lib.ListN.{drop}

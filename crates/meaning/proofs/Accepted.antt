@@ -1,13 +1,12 @@
 -- What an accepted problem is: its events lie below n, its bounds and its sizes within their limits. Assumes nothing.
 use mathlib.Core.Path.{_≡_, refl, ap, _∙_}
-use mathlib.Core.Bool.{Bool, true, false, cond, _&&_}
+use mathlib.Core.Bool.{Bool, true, false, _&&_}
 use mathlib.Core.List.{List, [], _∷_, _++_}
-use Prim.Native.Nat.{ℕ, zero, suc, _+_, _-_, _*_, _/_, _%_, _<_, _≤_}
+use Prim.Native.Nat.{ℕ, zero, suc, _+_, _-_, _*_, _%_, _<_, _≤_}
 use native.Mathlib.Nat.{not-suc-le-zero, le-of-suc-le-suc}
 use native.Mathlib.Omega.{arith}
-use lib.Dec.{T, leb, ltb, eqb, leb→le, ltb→lt, eqb→eq}
+use lib.Dec.{T, leb, ltb, eqb, leb→le, ltb→lt}
 use lib.IntN.{ℤ, pos, negsuc, natAbs}
-use lib.Signed.{leZ, ltZ}
 use lib.ListN.{length, getD, take, drop, length-take, length-drop}
 use Rattle.meaning.specs.Limits.{mostEvents, mostClauses, mostInClause, mostAlternatives, mostBound}
 use Rattle.meaning.specs.Problem.{Alternative, Clause}
@@ -51,6 +50,13 @@ unfolding firstFailed
 front-first i [] ds l = absurd (not-suc-le-zero l)
 front-first i (true ∷ bs) ds l = front-first (suc i) bs ds l
 front-first i (false ∷ bs) ds l = refl
+
+-- tests after others that are all passed
+pub passed-over : (i : ℕ) (bs ds : List Bool) → Passed bs → firstFailed i (bs ++ ds) ≡ firstFailed (i + length bs) ds
+unfolding firstFailed
+passed-over i [] ds p = ap (λ (j : ℕ). firstFailed j ds) (let e : i ≡ i + 0 = omega arith in e)
+passed-over i (true ∷ bs) ds p = passed-over (suc i) bs ds (p .1) ∙ ap (λ (j : ℕ). firstFailed j ds) (let e : suc i + length bs ≡ i + suc (length bs) = omega arith in e)
+passed-over i (false ∷ bs) ds p = absurd (p .0)
 
 -- a call that `plan` takes has an accepted problem
 pub plan-problem : (i : Input) → refusal i ≡ 0 → problemRefusal (i .lent) ≡ 0

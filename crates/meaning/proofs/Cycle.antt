@@ -1,14 +1,14 @@
 -- A cycle row over facts leaves them no timetable. Assumes nothing.
-use mathlib.Core.Path.{_≡_, refl, sym, ap, ap₂, _∙_, subst}
-use mathlib.Core.Bool.{Bool, true, false, cond, _&&_, not}
-use mathlib.Core.Option.{Option, some, none}
+use mathlib.Core.Path.{_≡_, sym, ap, ap₂, _∙_, subst}
+use mathlib.Core.Bool.{Bool, true, false, cond, _&&_}
+use mathlib.Core.Option.{some}
 use mathlib.Core.List.{List, [], _∷_}
-use Prim.Native.Nat.{ℕ, zero, suc, _+_, _-_, _<_, _≤_}
+use Prim.Native.Nat.{ℕ, suc, _+_, _-_, _<_, _≤_}
 use native.Mathlib.Omega.{arith}
-use lib.Dec.{T, leb, ltb, eqb, eqb→eq, leb→le, le→leb, ltb→lt, lt→ltb, nltb→le}
-use lib.IntN.{ℤ, pos, negsuc, negℤ, subℕ, _+ℤ_, _-ℤ_, +ℤ-comm, +ℤ-assoc, +ℤ-invr, pos-+ℤ-pos, -ℤ-+ℤ-cancel}
+use lib.Dec.{T, eqb, eqb→eq, leb→le, le→leb, ltb→lt}
+use lib.IntN.{ℤ, pos, negsuc, negℤ, _+ℤ_, _-ℤ_, +ℤ-comm, +ℤ-assoc, +ℤ-invr, pos-+ℤ-pos, -ℤ-+ℤ-cancel}
 use lib.Signed.{leZ, ltZ}
-use Rattle.meaning.specs.Problem.{Alternative, Timetable, satisfied, Satisfies, Sound}
+use Rattle.meaning.specs.Problem.{Alternative, Timetable, satisfied, Satisfies}
 use Rattle.meaning.specs.Reasons.{named, given, walk, loops, numbers, filled, cycleOver}
 use Rattle.meaning.proofs.Deciding.{Minus, below, above, minus}
 use Rattle.meaning.proofs.Booleans.{both-left, both-right}

@@ -6,15 +6,14 @@ use lib.IntN.{ℤ, pos, negℤ}
 use lib.ListN.{replicate, length}
 use Rattle.meaning.specs.declared.Answer.{Answer}
 use Rattle.meaning.specs.declared.Answer.the-variants.{Plan, None, Unlisted, Stopped, Refused}
-use Rattle.meaning.specs.declared.Verdict.{Verdict}
 use Rattle.meaning.specs.declared.Verdict.the-variants.{Yes, No}
-use Rattle.meaning.specs.Limits.{rowBytes, blankByte}
+use Rattle.meaning.specs.Limits.{blankByte}
 use Rattle.meaning.specs.Problem.{Alternative, opposite, satisfied}
 use Rattle.meaning.specs.Plain.{product}
 use Rattle.meaning.specs.Decision.{ask, raise, round, rounds, least, settled, soundBy, latestOf, reach, sound}
 use Rattle.meaning.specs.Search.{Row, mark, cycle, enter, look, later, andThen, branch, dead, firstDead, search}
 use Rattle.meaning.specs.Reasons.{named, given, walk, loops, numbers, blank, filled, cycleOver, same, markRow, kind, cycleRows, front, reading, andRead, eachRead, read, cut, rowsOf, allBlank, ends, isReading}
-use Rattle.meaning.specs.Screen.{Lent, Input, alternatives, parted, clausesOf, stepped, events, bounds, problemTests, planTests, firstFailed, problemRefusal, refusal, Screen, cleared, listed, shown, decided, screen}
+use Rattle.meaning.specs.Screen.{Lent, Input, alternatives, parted, clausesOf, stepped, events, bounds, problemTests, planTests, firstFailed, problemRefusal, refusal, cleared, listed, shown, decided, screen}
 use Rattle.meaning.specs.Verdicts.{verdict, reasonsVerdict, some, keeps, timetableRefusal, timetableVerdict}
 use Rattle.meaning.specs.Lamps.{forced, lampsOf, joined, bits, ones, firstLit, lit, panelOf, dark, shownPanel, panel}
 

@@ -2,11 +2,11 @@
 -- Assumes nothing.
 use mathlib.Core.Path.{_≡_, refl, sym, ap, ap₂, _∙_, subst}
 use mathlib.Core.Bool.{Bool, true, false, not, cond}
-use mathlib.Core.List.{List, [], _∷_, map}
-use Prim.Native.Nat.{ℕ, zero, suc, _+_, _-_, _<_, _≤_, zero-le, max}
-use native.Mathlib.Nat.{le-refl, le-trans}
+use mathlib.Core.List.{List, [], _∷_}
+use Prim.Native.Nat.{ℕ, zero, suc, _+_, _-_, _<_, _≤_, zero-le}
+use native.Mathlib.Nat.{le-trans}
 use native.Mathlib.Omega.{arith}
-use lib.Dec.{T, leb, ltb, leb→le, le→leb, ltb→lt, lt→ltb, nltb→le, not-T}
+use lib.Dec.{T, ltb, leb→le, le→leb, ltb→lt, nltb→le}
 use lib.IntN.{ℤ, pos, negsuc, negℤ, subℕ, _+ℤ_, _-ℤ_, negℤ-+ℤ, negℤ-negℤ, +ℤ-comm, +ℤ-assoc, +ℤ-negℤ-cancel, +ℤ-idl}
 use lib.Signed.{leZ, _≤ℤ_}
 use lib.ListN.{length, getD, length-map, length-replicate, replicate, List·getD-map}
@@ -14,7 +14,7 @@ use lib.Seq.{ext-getD}
 use Rattle.meaning.specs.Problem.{Alternative, Timetable, satisfied, Satisfies, Sound}
 use Rattle.meaning.specs.Plain.{Latest}
 use Rattle.meaning.specs.Search.{Decides}
-use Rattle.meaning.specs.Decision.{ask, least, latestOf, soundBy, reach, sound}
+use Rattle.meaning.specs.Decision.{ask, least, latestOf, reach, sound}
 use Rattle.meaning.proofs.Settling.{Each, each-map, each-map₃, In, Meets, at, total, total-has, rounds-length, least-under, sound-right, sound-whole}
 
 pub data Minus (a b : ℕ) : ℤ → Type 0 where

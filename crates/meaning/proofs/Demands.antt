@@ -1,23 +1,22 @@
 -- Demands 2 and 3 of the quick search, over the plain list. Assumes nothing.
-use mathlib.Core.Path.{_≡_, refl, sym, ap, _∙_, subst}
-use mathlib.Core.Logic.{_⊎_, inl, inr, _↔_}
-use mathlib.Core.List.{List, [], _∷_}
-use Prim.Native.Nat.{ℕ, _+_, _<_, _≤_}
+use mathlib.Core.Path.{_≡_}
+use mathlib.Core.List.{List, []}
+use Prim.Native.Nat.{ℕ, _<_, _≤_}
 use lib.IntN.{ℤ, pos}
 use lib.Signed.{_≤ℤ_}
 use lib.ListN.{length, getD}
 use Rattle.meaning.specs.Limits.{longestDay}
-use Rattle.meaning.specs.Problem.{Alternative, Clause, Timetable, Satisfies, Sound, Keeps}
+use Rattle.meaning.specs.Problem.{Clause, Timetable, Sound, Keeps}
 use Rattle.meaning.specs.Plain.{Selection, chosen, Holds, selections, product, rank, timesOf, Latest}
 use Rattle.meaning.specs.Decision.{sound, timeOf, latestOf}
-use Rattle.meaning.specs.Search.{Standing, facts, Row, Outcome, found, closed, stopped, search}
+use Rattle.meaning.specs.Search.{Standing, facts, Row, found, closed, stopped, search}
 use Rattle.meaning.specs.Screen.{Lent, clausesOf}
 use Rattle.meaning.proofs.Settling.{In}
-use Rattle.meaning.proofs.First.{First, plan-first, none-holds, stop-place, stop-rules}
+use Rattle.meaning.proofs.First.{plan-first, none-holds, stop-place, stop-rules}
 use Rattle.meaning.proofs.Plain.{plan-plain, none-plain, selections-length}
 use Rattle.meaning.proofs.Kept.{keeps-selection, selection-keeps}
 use Rattle.meaning.proofs.Deciding.{sound-decides, latest-is, latest-one}
-use Rattle.meaning.proofs.Accepted.{Accepted, Every, Bounded, chosen-each}
+use Rattle.meaning.proofs.Accepted.{Accepted, Bounded, chosen-each}
 use Rattle.meaning.proofs.Range.{latest-range}
 
 -- "the first selection in dictionary order that has a timetable, its latest timetable, the number of selections before it"

@@ -1,9 +1,9 @@
 -- How a screen came about: the five rows of the table, and what each means. Demands 1, 2 and 3 of whatever a call may leave. Assumes nothing.
 use mathlib.Core.Path.{_≡_, refl, sym, ap, _∙_, subst}
 use mathlib.Core.Bool.{Bool, true, false}
-use mathlib.Core.Logic.{_⊎_, inl, inr, _↔_}
-use mathlib.Core.List.{List, [], _∷_, _++_}
-use Prim.Native.Nat.{ℕ, zero, suc, _+_, _-_, _*_, _^_, _<_, _≤_}
+use mathlib.Core.Logic.{_⊎_, inl, inr}
+use mathlib.Core.List.{List, [], _++_}
+use Prim.Native.Nat.{ℕ, zero, suc, _+_, _-_, _*_, _^_, _≤_}
 use native.Mathlib.Nat.{le-trans}
 use native.Mathlib.Omega.{arith}
 use lib.Dec.{T, leb, leb→le}
@@ -13,9 +13,9 @@ use Rattle.meaning.specs.declared.Answer.{Answer}
 use Rattle.meaning.specs.declared.Answer.the-variants.{Plan, None, Unlisted, Stopped, Refused}
 use Rattle.meaning.specs.Limits.{rowBytes, blankByte, noTime}
 use Rattle.meaning.specs.Problem.{Timetable, Keeps}
-use Rattle.meaning.specs.Plain.{chosen, timesOf, product}
+use Rattle.meaning.specs.Plain.{chosen, timesOf}
 use Rattle.meaning.specs.Decision.{sound, latestOf}
-use Rattle.meaning.specs.Search.{Row, Outcome, found, closed, stopped, search}
+use Rattle.meaning.specs.Search.{Row, Outcome, found, closed, stopped}
 use Rattle.meaning.specs.Screen.{Lent, Input, clausesOf, refusal, Screen, cleared, listed, shown, outcome, decided, screen, Shows}
 use Rattle.meaning.proofs.Booleans.{is-true}
 use Rattle.meaning.proofs.Accepted.{Accepted, accepted, plan-problem}

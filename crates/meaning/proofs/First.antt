@@ -1,11 +1,11 @@
 -- The quick search returns the first selection in dictionary order that holds, with its rank, or none where none holds.
 -- Assumes nothing beyond what it is given: a decision of soundness.
 use mathlib.Core.Path.{_≡_, refl, sym, ap, _∙_, subst}
-use mathlib.Core.Bool.{Bool, true, false, not, cond}
+use mathlib.Core.Bool.{Bool, true, false, cond}
 use mathlib.Core.Logic.{_⊎_, inl, inr, _↔_, ⊎-elim, by-cases}
 use mathlib.Core.Option.{Option, some, none, Option·map}
-use mathlib.Core.List.{List, [], _∷_, _++_, map}
-use Prim.Native.Nat.{ℕ, zero, suc, _+_, _*_, _<_, _≤_, zero-le, suc-le-suc}
+use mathlib.Core.List.{List, [], _∷_}
+use Prim.Native.Nat.{ℕ, zero, suc, _+_, _<_, _≤_, zero-le, suc-le-suc}
 use native.Mathlib.Nat.{le-of-suc-le-suc, not-suc-le-zero, suc-mul, zero-mul}
 use native.Mathlib.Decide.{decLt}
 use native.Mathlib.Omega.{arith}
@@ -13,8 +13,8 @@ use lib.Dec.{T}
 use lib.ListN.{length, getD}
 use Rattle.meaning.specs.Limits.{onwardMark}
 use Rattle.meaning.specs.Problem.{Alternative, opposite, Clause, Timetable, satisfied, Satisfies, Sound}
-use Rattle.meaning.specs.Plain.{Selection, nowhere, chosen, Holds, _≺_, product, rank, Latest}
-use Rattle.meaning.specs.Search.{Standing, Row, mark, cycle, Outcome, found, closed, stopped, enter, look, later, andThen, branch, dead, firstDead, search, facts, Decides}
+use Rattle.meaning.specs.Plain.{Selection, nowhere, chosen, Holds, _≺_, product, rank}
+use Rattle.meaning.specs.Search.{Standing, Row, mark, Outcome, found, closed, stopped, enter, look, later, andThen, branch, dead, firstDead, search, facts, Decides}
 use Rattle.meaning.proofs.Opposite.{split}
 use Rattle.meaning.proofs.Booleans.{never}
 

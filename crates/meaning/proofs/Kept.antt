@@ -1,15 +1,12 @@
 -- A timetable keeps a problem exactly where it satisfies the alternatives of a selection. Assumes nothing.
-use mathlib.Core.Path.{_≡_, refl}
-use mathlib.Core.Logic.{_⊎_, inl, inr}
+use mathlib.Core.Logic.{inl, inr}
 use mathlib.Core.List.{List, [], _∷_}
-use Prim.Native.Nat.{ℕ, zero, suc, _+_, _-_, _<_, _≤_, zero-le, suc-le-suc}
+use Prim.Native.Nat.{ℕ, zero, suc, _-_, _<_, zero-le, suc-le-suc}
 use native.Mathlib.Nat.{le-of-suc-le-suc, not-suc-le-zero}
-use native.Mathlib.Omega.{arith}
 use lib.Dec.{T}
-use lib.IntN.{ℤ, pos, negsuc, natAbs}
 use lib.ListN.{length, getD}
-use Rattle.meaning.specs.Problem.{Alternative, Clause, Timetable, satisfied, Satisfies, Some, Keeps}
-use Rattle.meaning.specs.Plain.{Selection, nowhere, chosen, Holds}
+use Rattle.meaning.specs.Problem.{Clause, Timetable, satisfied, Satisfies, Some, Keeps}
+use Rattle.meaning.specs.Plain.{Selection, nowhere, chosen}
 
 some-at : (t : Timetable) (c : Clause) → Some t c → (i : ℕ) × (i < length c) × T (satisfied t (getD c i nowhere))
 some-at t [] h = absurd h

@@ -1,10 +1,9 @@
 -- The list of reasons as bytes: a writing of the rows of a search without a plan, then 255s, is a reading, and a list that is one means that nothing holds.
 -- Shown over the width of a row. Assumes nothing.
 use mathlib.Core.Path.{_≡_, refl, sym, ap, ap₂, _∙_, subst}
-use mathlib.Core.Bool.{Bool}
 use mathlib.Core.Option.{Option, some, none}
 use mathlib.Core.List.{List, [], _∷_, _++_, append-assoc}
-use Prim.Native.Nat.{ℕ, zero, suc, _+_, _-_, _*_, _/_, _<_, _≤_}
+use Prim.Native.Nat.{ℕ, zero, suc, _+_, _-_, _*_, _/_, _<_}
 use native.Mathlib.Nat.{suc-mul, zero-mul, add-mul, mul-add-div-right}
 use native.Mathlib.Omega.{arith}
 use lib.Dec.{T}

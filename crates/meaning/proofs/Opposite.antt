@@ -3,7 +3,7 @@ use mathlib.Core.Path.{_≡_, refl, sym, ap, _∙_, subst}
 use mathlib.Core.Bool.{Bool, true, false, not}
 use mathlib.Core.Logic.{_⊎_, inl, inr}
 use Prim.Native.Nat.{ℕ, zero, suc}
-use lib.Dec.{T, T-not, leb, leb→le, le→leb, nleb→lt, leb·suc-suc, leb·zero, leb·suc-zero}
+use lib.Dec.{T, T-not, leb, leb·suc-suc, leb·zero, leb·suc-zero}
 use lib.IntN.{ℤ, pos, negsuc, negℤ, predℤ, _+ℤ_, _-ℤ_, negℤ-+ℤ, negℤ-negℤ, +ℤ-comm}
 use lib.Signed.{leZ}
 use Rattle.meaning.specs.Problem.{Alternative, opposite, Timetable, satisfied}

@@ -1,6 +1,5 @@
 -- The order of facts and their copies do not count: sets of facts with the same members are as sound. Assumes nothing.
 use mathlib.Core.Path.{_≡_, refl, sym, subst}
-use mathlib.Core.Bool.{Bool}
 use mathlib.Core.List.{List, [], _∷_, List·Memᴰ, List·Memᴰ·head, List·Memᴰ·tail}
 use lib.Dec.{T}
 use Rattle.meaning.specs.Problem.{Alternative, Timetable, satisfied, Satisfies}

@@ -12,8 +12,8 @@ use lib.ListN.{length, getD, length-append, length-map, List·getD-append}
 use lib.Seq.{getD-append-add}
 use Rattle.meaning.specs.Problem.{Alternative, Clause}
 use Rattle.meaning.specs.Plain.{Selection, Holds, _≺_, product, rank, begun, selections}
-use Rattle.meaning.specs.Search.{Row, Outcome, found, closed, stopped, search, Decides}
-use Rattle.meaning.proofs.First.{First, order, plan-first, none-holds, stop-rules}
+use Rattle.meaning.specs.Search.{Row, found, closed, search, Decides}
+use Rattle.meaning.proofs.First.{order, plan-first, none-holds}
 
 rank-lt : (cs : List Clause) (p : List ℕ) → Selection cs p → rank cs p < product cs
 unfolding rank product

@@ -1,14 +1,14 @@
 -- A reading of a standing means that no timetable of its facts satisfies a selection; and the rows of a search that ends without a plan are one. Assumes nothing.
-use mathlib.Core.Path.{_≡_, refl, sym, ap, _∙_, subst}
+use mathlib.Core.Path.{_≡_, refl, ap, _∙_}
 use mathlib.Core.Bool.{Bool, true, false, cond, _&&_}
 use mathlib.Core.Option.{Option, some, none, Option·map}
 use mathlib.Core.List.{List, [], _∷_, _++_, map}
 use Prim.Native.Nat.{ℕ, zero, suc, _+_, _-_, _<_, _≤_}
 use native.Mathlib.Nat.{le-of-suc-le-suc, not-suc-le-zero}
 use native.Mathlib.Omega.{arith}
-use lib.Dec.{T, leb, ltb, eqb, leb→le, le→leb, ltb→lt, lt→ltb, eqb→eq, eqb-refl}
+use lib.Dec.{T, leb, ltb, eqb, le→leb, ltb→lt, lt→ltb, eqb→eq, eqb-refl}
 use lib.ListN.{length, getD, replicate}
-use Rattle.meaning.specs.Limits.{mostClauses, onwardMark, deadMark, blankByte}
+use Rattle.meaning.specs.Limits.{mostClauses, onwardMark}
 use Rattle.meaning.specs.Problem.{Alternative, opposite, Clause, Timetable, satisfied, Satisfies}
 use Rattle.meaning.specs.Plain.{Selection, nowhere, chosen, Holds}
 use Rattle.meaning.specs.Search.{Row, mark, cycle, Outcome, found, closed, stopped, enter, look, later, andThen, branch, dead, firstDead, search}

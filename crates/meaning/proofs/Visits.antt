@@ -10,7 +10,7 @@ use native.Mathlib.Decide.{decLt}
 use native.Mathlib.Omega.{arith}
 use lib.ListN.{length}
 use Rattle.meaning.specs.Limits.{onwardMark}
-use Rattle.meaning.specs.Problem.{Alternative, opposite, Clause, Sound}
+use Rattle.meaning.specs.Problem.{Alternative, opposite, Clause}
 use Rattle.meaning.specs.Search.{Standing, taking, facts, Row, mark, Outcome, found, closed, stopped, enter, look, later, andThen, branch, again, firstDead, search, resume, Decides}
 use Rattle.meaning.proofs.Booleans.{is-true}
 use Rattle.meaning.proofs.Carry.{extend, carry}

@@ -1,33 +1,32 @@
 -- The two readers as witnesses: what a yes means, that no problem has both, and that what a call leaves is read yes. Assumes nothing.
 use mathlib.Core.Path.{_≡_, refl, sym, ap, ap₂, _∙_, subst}
-use mathlib.Core.Bool.{Bool, true, false, _&&_, _||_}
+use mathlib.Core.Bool.{Bool, true, false, _||_}
 use mathlib.Core.Logic.{_⊎_, inl, inr}
-use mathlib.Core.List.{List, [], _∷_, _++_}
-use Prim.Native.Nat.{ℕ, zero, suc, _+_, _-_, _*_, _<_, _≤_}
+use mathlib.Core.List.{List, [], _∷_}
+use Prim.Native.Nat.{ℕ, zero, suc, _-_, _<_, _≤_}
 use native.Mathlib.Omega.{arith}
-use lib.Dec.{T, leb, le→leb}
+use lib.Dec.{T, le→leb}
 use lib.IntN.{ℤ, pos, _-ℤ_}
 use lib.Signed.{leZ}
 use lib.ListN.{length, replicate, length-append, List·getD-append}
 use Rattle.meaning.specs.declared.Answer.{Answer}
-use Rattle.meaning.specs.declared.Answer.the-variants.{Plan, None, Unlisted, Stopped, Refused as RefusedCall}
-use Rattle.meaning.specs.declared.Verdict.{Verdict}
-use Rattle.meaning.specs.declared.Verdict.the-variants.{Yes, No, Refused}
-use Rattle.meaning.specs.Limits.{rowBytes, blankByte, noTime}
-use Rattle.meaning.specs.Problem.{Alternative, Clause, Timetable, satisfied, Some, Keeps}
+use Rattle.meaning.specs.declared.Answer.the-variants.{Plan, None, Stopped, Refused as RefusedCall}
+use Rattle.meaning.specs.declared.Verdict.the-variants.{Yes}
+use Rattle.meaning.specs.Limits.{rowBytes, noTime}
+use Rattle.meaning.specs.Problem.{Clause, Timetable, satisfied, Some, Keeps}
 use Rattle.meaning.specs.Plain.{timesOf}
 use Rattle.meaning.specs.Decision.{sound}
-use Rattle.meaning.specs.Search.{Row, Outcome, found, closed, stopped, search}
+use Rattle.meaning.specs.Search.{found, closed}
 use Rattle.meaning.specs.Reasons.{isReading, Written}
-use Rattle.meaning.specs.Screen.{Lent, Input, clausesOf, problemTests, firstFailed, problemRefusal, Screen, cleared, listed, shown, outcome, screen, Shows}
+use Rattle.meaning.specs.Screen.{Lent, Input, clausesOf, problemTests, problemRefusal, Screen, cleared, listed, shown, screen, Shows}
 use Rattle.meaning.specs.Verdicts.{verdict, reasonsVerdict, some, keeps, timetableRefusal, timetableVerdict}
 use Rattle.meaning.proofs.Booleans.{both, both-left, both-right, is-true, never}
 use Rattle.meaning.proofs.Settling.{Each, In}
-use Rattle.meaning.proofs.Accepted.{Accepted, Every, Passed, all-passed, none-failed, passed-both}
+use Rattle.meaning.proofs.Accepted.{Accepted, Every, all-passed, none-failed, passed-both}
 use Rattle.meaning.proofs.Demands.{kept-holds}
 use Rattle.meaning.proofs.Reading.{Readable, search-readable}
 use Rattle.meaning.proofs.Listing.{reading-none, written-reading}
-use Rattle.meaning.proofs.Endings.{Ending, refuses, plans, lists, omits, stops, ending, Shown, Means, shows-means}
+use Rattle.meaning.proofs.Endings.{Ending, refuses, plans, lists, omits, stops, ending, Shown, shows-means}
 
 -- ---- the test of a timetable is the meaning of "keeps"
 some-of : (t : Timetable) (c : Clause) → T (some t c) → Some t c

@@ -1,5 +1,5 @@
 -- The sizes and limits of 01, "What the table is given" and "The list of reasons", each under one name. Definitions only.
-use Prim.Native.Nat.{ℕ, _*_}
+use Prim.Native.Nat.{ℕ}
 use lib.IntN.{ℤ, pos}
 
 abbrev pub mostEvents : ℕ

@@ -1,15 +1,14 @@
 -- Laws of a checked problem by value: where the numbers of a clause lie. Assumes nothing.
-use mathlib.Core.Path.{_≡_, refl, sym, ap, _∙_}
-use mathlib.Core.List.{List, [], _∷_}
+use mathlib.Core.Path.{_≡_, refl, ap, _∙_}
+use mathlib.Core.List.{[]}
 use Prim.Native.Nat.{ℕ, zero, suc, _+_, _-_, _<_, _≤_}
 use native.Mathlib.Nat.{not-suc-le-zero, le-of-suc-le-suc}
 use native.Mathlib.Omega.{arith}
 use lib.ListN.{length, getD, drop}
-use Rattle.meaning.specs.Limits.{mostInClause, mostAlternatives}
-use Rattle.meaning.specs.Problem.{Clause}
+use Rattle.meaning.specs.Limits.{mostInClause}
 use Rattle.problem.specs.declared.Problem.{Problem}
-use Rattle.problem.specs.Arcs.{Net, at, arc, arcsFrom}
-use Rattle.problem.specs.Laid.{arcs, sizeOf, clauseOf, clausesFrom, clausesIn, Laid}
+use Rattle.problem.specs.Arcs.{Net, at, arcsFrom}
+use Rattle.problem.specs.Laid.{sizeOf, clauseOf, clausesFrom, clausesIn, Laid}
 
 pub arcs-length : (g : Net) (j k : ℕ) → length (arcsFrom g j k) ≡ k
 unfolding arcsFrom

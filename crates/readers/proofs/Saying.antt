@@ -15,7 +15,7 @@ use Rattle.meaning.specs.Plain.{timesOf}
 use Rattle.meaning.specs.Reasons.{isReading}
 use Rattle.meaning.specs.Screen.{Lent, clausesOf, problemTests, firstFailed, problemRefusal}
 use Rattle.meaning.specs.Verdicts.{verdict, reasonsVerdict, keeps, timetableRefusal, timetableVerdict}
-use Rattle.meaning.proofs.Accepted.{Passed, all-passed, front-first}
+use Rattle.meaning.proofs.Accepted.{all-passed, front-first, passed-over}
 use Rattle.problem.specs.declared.Problem.{Problem}
 use Rattle.problem.specs.Laid.{clausesIn}
 use Rattle.problem.specs.Reads.{Reads}
@@ -24,13 +24,6 @@ refused : (r : ℕ) (b : Bool) → (r ≡ 0 → ⊥) → verdict r b ≡ Refused
 unfolding verdict
 refused zero b n = absurd (n refl)
 refused (suc r) b n = refl
-
--- tests after others that are passed
-passed-over : (i : ℕ) (bs ds : List Bool) → Passed bs → firstFailed i (bs ++ ds) ≡ firstFailed (i + length bs) ds
-unfolding firstFailed
-passed-over i [] ds p = let e : i ≡ i + 0 = omega arith in ap (λ (j : ℕ). firstFailed j ds) e
-passed-over i (true ∷ bs) ds p = let e : suc i + length bs ≡ i + suc (length bs) = omega arith in passed-over (suc i) bs ds (p .1) ∙ ap (λ (j : ℕ). firstFailed j ds) e
-passed-over i (false ∷ bs) ds p = absurd (p .0)
 
 module _ (l : Lent) (r : ℕ) (e : r ≡ problemRefusal l) where
   -- a refused problem

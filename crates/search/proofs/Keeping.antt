@@ -1,18 +1,18 @@
 -- Rows put at the end of what is kept. Assumes nothing.
 use mathlib.Core.Path.{_≡_, refl, sym, ap, ap₂, _∙_, subst}
-use mathlib.Core.Bool.{Bool, true, false, cond}
+use mathlib.Core.Bool.{Bool, cond}
 use mathlib.Core.List.{List, [], _∷_, _++_, map, append-assoc, append-nil}
-use Prim.Native.Nat.{ℕ, zero, suc, _+_, _-_, _*_, _<_, _≤_}
-use native.Mathlib.Nat.{suc-mul, add-mul}
+use Prim.Native.Nat.{ℕ, _+_, _-_, _*_, _<_, _≤_}
+use native.Mathlib.Nat.{add-mul}
 use native.Mathlib.Decide.{decLt}
 use native.Mathlib.Omega.{arith}
-use lib.Dec.{T, leb, leb→le, le→leb}
+use lib.Dec.{leb, leb→le, le→leb}
 use lib.ListN.{length, take, drop, replicate, length-append, length-take, length-drop, length-map}
 use lib.Seq.{take-at, drop-append-add}
 use Rattle.meaning.specs.Limits.{rowBytes, blankByte}
 use Rattle.meaning.specs.Problem.{Alternative}
 use Rattle.meaning.specs.Search.{Row, cycle}
-use Rattle.meaning.specs.Reasons.{Writes, Written}
+use Rattle.meaning.specs.Reasons.{Writes}
 use Rattle.meaning.proofs.Booleans.{is-true, is-false}
 use Rattle.meaning.proofs.Listing.{written-length, written-append, writes-length, drop-blanks}
 use Rattle.problem.specs.Arcs.{Net, arc, arcsFrom}

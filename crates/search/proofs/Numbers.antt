@@ -6,16 +6,16 @@ use native.Mathlib.Nat.{not-suc-le-zero, le-of-suc-le-suc}
 use native.Mathlib.Omega.{arith}
 use lib.ListN.{length, getD, take, drop, length-take, drop-of-length-le}
 use lib.Seq.{drop-cons, getD-take}
-use Rattle.meaning.specs.Limits.{oppositeFrom, mostAlternatives}
-use Rattle.meaning.specs.Problem.{Alternative, opposite, Clause}
-use Rattle.meaning.specs.Plain.{Selection, nowhere, chosen}
+use Rattle.meaning.specs.Limits.{oppositeFrom}
+use Rattle.meaning.specs.Problem.{Alternative}
+use Rattle.meaning.specs.Plain.{nowhere, chosen}
 use Rattle.meaning.specs.Search.{Standing, taking, facts}
 use Rattle.problem.specs.declared.Problem.{Problem}
-use Rattle.problem.specs.Arcs.{Net, at, arc, Arc, arcsFrom}
-use Rattle.problem.specs.Laid.{arcs, sizeOf, clauseOf, clausesFrom, Laid}
+use Rattle.problem.specs.Arcs.{Net, at, arc, arcsFrom}
+use Rattle.problem.specs.Laid.{arcs, sizeOf, clausesFrom, Laid}
 use Rattle.problem.proofs.Laying.{arcs-length, position-below, clause-ends}
 use Rattle.held.proofs.Arcs.{Arcs, arcs-none, arcs-more}
-use Rattle.search.specs.Standing.{takes, standingFacts, chosenFacts, Inside}
+use Rattle.search.specs.Standing.{takes, standingFacts, chosenFacts}
 
 -- ---- the numbers, as the loops go
 -- an alternative passed over

@@ -3,14 +3,13 @@ use mathlib.Core.Path.{_≡_, refl, sym, ap, ap₂, _∙_, subst}
 use mathlib.Core.Bool.{Bool, true, false, cond}
 use mathlib.Core.Option.{Option, some, none}
 use mathlib.Core.List.{List, [], _∷_, _++_}
-use Prim.Native.Nat.{ℕ, zero, suc, _+_, _-_, _*_, _^_, _<_, _≤_, zero-le}
+use Prim.Native.Nat.{ℕ, zero, suc, _+_, _-_, _*_, _^_, _<_, _≤_}
 use native.Mathlib.Nat.{not-suc-le-zero, le-of-suc-le-suc, le-trans}
 use native.Mathlib.Decide.{decLt}
 use native.Mathlib.Omega.{arith}
 use lib.Dec.{T, ltb, ltb→lt, lt→ltb}
-use lib.ListN.{length, getD, take, drop, set, length-take, length-drop, length-set, drop-of-length-le}
+use lib.ListN.{length, getD, take, drop, set, length-take, length-drop, drop-of-length-le}
 use lib.Seq.{take-nil, take-suc, drop-cons, getD-take, getD-drop, getD-set-same, getD-set-other, take-suc-set}
-use Rattle.meaning.specs.Limits.{mostInClause, mostAlternatives}
 use Rattle.meaning.specs.Problem.{Clause}
 use Rattle.meaning.specs.Plain.{product, rank}
 use Rattle.meaning.specs.Search.{Standing, next, sideways}
@@ -20,7 +19,7 @@ use Rattle.meaning.proofs.Fits.{product-fits, rank-within}
 use Rattle.meaning.proofs.Rows.{Short}
 use Rattle.problem.specs.declared.Problem.{Problem}
 use Rattle.problem.specs.Arcs.{at}
-use Rattle.problem.specs.Laid.{arcs, sizeOf, clauseOf, clausesFrom, clausesIn, Laid}
+use Rattle.problem.specs.Laid.{arcs, sizeOf, clausesFrom, clausesIn, Laid}
 use Rattle.problem.proofs.Laying.{arcs-length, clauses-length, clause-of, clause-last, size-most}
 use Rattle.search.specs.Standing.{Inside}
 use Rattle.search.specs.Places.{openAt}
@@ -108,7 +107,7 @@ drop-take (suc i) (suc k) [] = sym (take-nil (suc k - suc i))
 drop-take (suc i) (suc k) (x ∷ l) = rw (let e : suc k - suc i ≡ k - i = omega arith in e) (drop-take i k l)
 
 module _ (p : Problem) (laid : Laid p) where
-  laid-short : (k c : ℕ) → k + c ≤ p .m → Short (clausesFrom p k c)
+  pub laid-short : (k c : ℕ) → k + c ≤ p .m → Short (clausesFrom p k c)
   unfolding clausesFrom
   laid-short k zero h = tt
   laid-short k (suc c) h =

@@ -1,15 +1,15 @@
 -- One step of the search: what remains at a place is the step and what remains at the next. Assumes nothing.
 use mathlib.Core.Path.{_≡_, refl, sym, ap, ap₂, _∙_, subst}
-use mathlib.Core.Bool.{Bool, true, false, cond}
-use mathlib.Core.Option.{Option, some, none, Option·map}
-use mathlib.Core.List.{List, [], _∷_, _++_, map, append-assoc, append-nil}
+use mathlib.Core.Bool.{true, false}
+use mathlib.Core.Option.{Option, some, none}
+use mathlib.Core.List.{List, [], _∷_, _++_, map}
 use Prim.Native.Nat.{ℕ, zero, suc, _+_, _-_, _*_, _<_, _≤_}
 use native.Mathlib.Nat.{not-suc-le-zero, le-of-suc-le-suc}
 use native.Mathlib.Decide.{decLt}
 use native.Mathlib.Omega.{arith}
-use lib.ListN.{length, getD, take, drop, set, length-append, length-take, length-map}
+use lib.ListN.{length, getD, take, drop, set, length-append, length-take}
 use lib.Seq.{take-suc-set, getD-set-same, getD-set-other, drop-nil}
-use Rattle.meaning.specs.Limits.{mostInClause, onwardMark, deadMark}
+use Rattle.meaning.specs.Limits.{onwardMark, deadMark}
 use Rattle.meaning.specs.Problem.{Alternative, Clause}
 use Rattle.meaning.specs.Plain.{product}
 use Rattle.meaning.specs.Decision.{sound}
@@ -28,7 +28,7 @@ use Rattle.search.specs.declared.Went.{Went}
 use Rattle.search.specs.Standing.{Inside}
 use Rattle.search.specs.Places.{openAt}
 use Rattle.search.specs.Listing.{Kept, Keeps}
-use Rattle.search.specs.Steps.{positions, effort, mostRows, Fine, At, Found, Ended, Stopped, Goes, Means, Next, Leaves}
+use Rattle.search.specs.Steps.{positions, effort, Fine, At, Found, Ended, Stopped, Goes, Means, Next, Leaves}
 use Rattle.search.proofs.Numbers.{inside-standing}
 use Rattle.search.proofs.Dead.{clauses-first}
 

@@ -1,11 +1,11 @@
 -- What each way through a visit and a step makes of the place and the reasons. Assumes nothing.
-use mathlib.Core.Path.{_≡_, refl, sym, ap, ap₂, _∙_, subst}
+use mathlib.Core.Path.{_≡_, refl, sym, ap, _∙_, subst}
 use mathlib.Core.Bool.{Bool, true, false, cond, true≢false, false≢true}
 use mathlib.Core.Option.{Option, some, none, Option·map}
-use mathlib.Core.List.{List, [], _∷_, _++_, map}
-use Prim.Native.Nat.{ℕ, zero, suc, _+_, _-_, _*_, _<_, _≤_}
+use mathlib.Core.List.{List, [], _∷_, map}
+use Prim.Native.Nat.{ℕ, suc, _+_, _-_, _<_, _≤_}
 use native.Mathlib.Omega.{arith}
-use lib.ListN.{length, getD, take, set, replicate, length-map, length-replicate}
+use lib.ListN.{length, getD, set, replicate, length-map}
 use Rattle.meaning.specs.Limits.{rowBytes, blankByte, mostAllowance, onwardMark, deadMark}
 use Rattle.meaning.specs.Problem.{Alternative, Clause}
 use Rattle.meaning.specs.Plain.{product}
@@ -29,9 +29,9 @@ use Rattle.search.specs.declared.Turn.the-variants.{On, Plan, Closed, St
 use Rattle.search.specs.declared.Went.{Went}
 use Rattle.search.specs.Standing.{standingFacts, Inside, DeadFrom}
 use Rattle.search.specs.Places.{openAt}
-use Rattle.search.specs.Listing.{putRow, Listed, Kept, Keeps}
-use Rattle.search.specs.Steps.{positions, effort, mostRows, Fine, At, Goes, Means, Steps, Visits, Leaves, Ends, Runs, isOn}
-use Rattle.search.proofs.Numbers.{inside-standing, standing-facts, standing-arcs}
+use Rattle.search.specs.Listing.{putRow, Keeps}
+use Rattle.search.specs.Steps.{positions, effort, Fine, At, Goes, Means, Steps, Visits, Leaves, Ends, Runs, isOn}
+use Rattle.search.proofs.Numbers.{standing-facts, standing-arcs}
 use Rattle.search.proofs.Keeping.{put-length, keeps-row, keeps-then}
 use Rattle.search.proofs.Steps.{stands, counted-on, closes, unsound-is, stops-is, found-is, dead-is, opens}
 

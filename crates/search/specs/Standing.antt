@@ -1,7 +1,7 @@
 -- The facts of a standing as arc numbers, newest first, and its dead clauses. Definitions only.
 use mathlib.Core.Path.{_≡_}
 use mathlib.Core.List.{List, [], _∷_}
-use mathlib.Core.Option.{Option, some, none}
+use mathlib.Core.Option.{some, none}
 use Prim.Native.Nat.{ℕ, zero, suc, _+_, _-_, _<_, _≤_}
 use Rattle.meaning.specs.Limits.{oppositeFrom}
 use Rattle.meaning.specs.Decision.{sound}

@@ -9,9 +9,6 @@ use Rattle.facts.specs.Tests.{places}
 use borrow.Author.Needs.{needs}
 use Rattle.held.proofs.tested.Statement.{statement}
 use Rattle.held.proofs.tested.Tie as tie
-use Rattle.held.proofs.tested.Reads as reads
-use Rattle.held.proofs.tested.Lts as lts
-use Rattle.facts.proofs.test.Reads as test-reads
 
 whole : (l : List ℕ) (at : ℕ) → length l ≡ places → length (drop at l) ≤ places - at
 whole l at h = omega (arith, length-drop at l)

@@ -1,14 +1,10 @@
 -- `search::leave` meets its contract: the next standing has fewer alternatives open. Assumes nothing.
 use Rattle.problem.specs.Laid.{clausesIn}
 use Rattle.search.proofs.Ranks.{open-next}
-use mathlib.Core.Path.{_≡_, refl}
-use lib.ListN.{take}
+use mathlib.Core.Path.{refl}
 use borrow.Author.Needs.{needs}
 use Rattle.search.proofs.leave.Statement.{statement}
 use Rattle.search.proofs.leave.Tie as tie
-use Rattle.search.proofs.leave.Reads as reads
-use Rattle.search.proofs.leave.Lts as lts
-use Rattle.search.proofs.places.advance.Reads as advance-reads
 
 advance-requires : tie.Need-advance-requires
 advance-requires c κs = search needs

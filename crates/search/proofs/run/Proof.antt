@@ -1,25 +1,15 @@
 -- `search::run` meets its contract: the whole search is what was closed so far, and the search from the place. Assumes nothing.
-use mathlib.Core.Path.{_≡_, refl, sym, ap, _∙_, subst}
-use mathlib.Core.Bool.{Bool, true, false, true≢false, false≢true}
-use mathlib.Core.List.{List, []}
-use Prim.Native.Nat.{ℕ, _+_, _<_, _≤_}
-use native.Mathlib.Omega.{arith}
+use mathlib.Core.Path.{_≡_, refl, sym, _∙_}
+use mathlib.Core.List.{[]}
 use lib.ListN.{length}
-use borrow.Author.Needs.{needs}
 use borrow.Author.Tests.{not-true, not-false}
 use Rattle.meaning.specs.Decision.{sound}
-use Rattle.meaning.specs.Search.{Outcome, search}
+use Rattle.meaning.specs.Search.{search}
 use Rattle.problem.specs.Laid.{clausesIn}
-use Rattle.search.specs.declared.Turn.{Turn}
-use Rattle.search.specs.declared.Turn.the-variants.{On, Plan, Closed, Stop}
-use Rattle.search.specs.Steps.{effort, Fine, At, Goes, Means, Ends, isOn}
+use Rattle.search.specs.Steps.{effort, Fine, At}
 use Rattle.search.proofs.Visiting.{start-fine, start-here, run-goes, run-ends}
 use Rattle.search.proofs.run.Statement.{statement}
 use Rattle.search.proofs.run.Tie as tie
-use Rattle.search.proofs.run.Reads as reads
-use Rattle.search.proofs.run.Lts as lts
-use Rattle.search.proofs.goes_on.Reads as goes-on-reads
-use Rattle.search.proofs.step.Reads as step-reads
 
 abbrev Inv-loop : tie.InvT-loop
 Inv-loop p allowance reasons₀ s₀ reasons s = Fine p allowance s × At p allowance (search sound (clausesIn p) 0 [] allowance) s reasons × (length reasons ≡ length reasons₀)

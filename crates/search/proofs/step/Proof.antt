@@ -1,28 +1,17 @@
 -- `search::step` meets its contract: each of its ways is one of the five of the search. Assumes nothing.
-use mathlib.Core.Path.{_≡_, refl, sym, ap, _∙_, subst}
-use mathlib.Core.Bool.{true, false}
-use mathlib.Core.List.{List, []}
-use Prim.Native.Nat.{ℕ, _+_, _<_, _≤_}
+use mathlib.Core.Path.{_≡_, sym, _∙_}
+use mathlib.Core.List.{[]}
 use native.Mathlib.Omega.{arith}
 use lib.ListN.{length}
-use Rattle.meaning.specs.Decision.{sound}
 use Rattle.meaning.specs.Search.{facts}
 use Rattle.problem.specs.Laid.{clausesIn}
 use Rattle.held.specs.Held.{factsIn, Ready}
-use Rattle.search.specs.Listing.{putRow}
-use Rattle.search.specs.Steps.{positions, Steps}
+use Rattle.search.specs.Steps.{positions}
 use Rattle.search.proofs.Visiting.{own-facts, ready, steps-unsound, steps-stop, steps-found, steps-visit}
 use borrow.Author.Needs.{needs}
 use borrow.Author.Tests.{not-true, not-false}
 use Rattle.search.proofs.step.Statement.{statement}
 use Rattle.search.proofs.step.Tie as tie
-use Rattle.search.proofs.step.Reads as reads
-use Rattle.search.proofs.step.Lts as lts
-use Rattle.held.proofs.tested.Reads as tested-reads
-use Rattle.search.proofs.standing.facts_of.Reads as facts-of-reads
-use Rattle.search.proofs.leave.Reads as leave-reads
-use Rattle.search.proofs.listing.put_row.Reads as put-row-reads
-use Rattle.search.proofs.visit.Reads as visit-reads
 
 -- a place has 32 picks, and a problem 128 arcs
 long-picks : (s : tie.Start) → length (s .args .s .picks) ≡ 32

@@ -1,7 +1,7 @@
 -- `search::visit` meets its contract: the mark and its cycle rows are kept, and the place is the one that the search comes to next. Assumes nothing.
-use mathlib.Core.Path.{_≡_, refl, sym, ap, _∙_, subst}
+use mathlib.Core.Path.{_≡_, ap, _∙_, subst}
 use mathlib.Core.List.{List, _∷_, map}
-use Prim.Native.Nat.{ℕ, _+_, _<_, _≤_}
+use Prim.Native.Nat.{ℕ, _+_}
 use native.Mathlib.Omega.{arith}
 use lib.ListN.{length}
 use Rattle.meaning.specs.Limits.{rowBytes, onwardMark, deadMark}
@@ -10,18 +10,10 @@ use Rattle.meaning.specs.Reasons.{markRow}
 use Rattle.problem.specs.Laid.{clauseOf}
 use Rattle.held.specs.Held.{factsIn}
 use Rattle.search.specs.Listing.{putRow, Keeps}
-use Rattle.search.specs.Steps.{Visits}
 use Rattle.search.proofs.Visiting.{found-dead, visits-dead, visits-open}
 use borrow.Author.Needs.{needs}
 use Rattle.search.proofs.visit.Statement.{statement}
 use Rattle.search.proofs.visit.Tie as tie
-use Rattle.search.proofs.visit.Reads as reads
-use Rattle.search.proofs.visit.Lts as lts
-use Rattle.search.proofs.standing.first_dead.Reads as first-dead-reads
-use Rattle.search.proofs.leave.Reads as leave-reads
-use Rattle.search.proofs.listing.mark_row.Reads as mark-row-reads
-use Rattle.search.proofs.listing.put_cycles.Reads as put-cycles-reads
-use Rattle.search.proofs.listing.put_row.Reads as put-row-reads
 
 -- a place has 32 picks
 long-picks : (s : tie.Start) → length (s .args .s .picks) ≡ 32

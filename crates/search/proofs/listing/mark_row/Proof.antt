@@ -4,8 +4,6 @@ use Rattle.meaning.specs.Reasons.{markRow}
 use borrow.Author.Needs.{needs}
 use Rattle.search.proofs.listing.mark_row.Statement.{statement}
 use Rattle.search.proofs.listing.mark_row.Tie as tie
-use Rattle.search.proofs.listing.mark_row.Reads as reads
-use Rattle.search.proofs.listing.mark_row.Lts as lts
 
 array-write-row : tie.Need-array-write-row
 array-write-row c = search needs

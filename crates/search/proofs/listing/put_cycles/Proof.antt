@@ -1,28 +1,23 @@
 -- `search::listing::put_cycles` meets its contract: the cycle rows of the alternatives passed are kept, and those to come are dead. Assumes nothing.
 use mathlib.Core.Path.{_≡_, refl, sym, ap, _∙_, subst}
-use mathlib.Core.Bool.{true, false}
-use mathlib.Core.List.{List, [], _∷_, _++_, map}
-use Prim.Native.Nat.{ℕ, _+_, _-_, _<_, _≤_}
+use mathlib.Core.Bool.{true}
+use mathlib.Core.List.{List, _∷_, map}
+use Prim.Native.Nat.{ℕ, _+_, _-_, _≤_}
 use native.Mathlib.Omega.{arith}
 use native.Mathlib.Numerals.{add-one}
-use lib.ListN.{length, length-map}
-use borrow.Author.Needs.{needs}
+use lib.ListN.{length}
 use Rattle.meaning.specs.Problem.{Alternative}
 use Rattle.meaning.specs.Decision.{sound}
-use Rattle.meaning.specs.Search.{Row, cycle, dead}
-use Rattle.problem.specs.Arcs.{Net, at, arc, arcsFrom}
-use Rattle.problem.specs.Laid.{arcs, sizeOf, clauseOf}
-use Rattle.problem.proofs.Laying.{arcs-length, clause-last, clause-ends, size-most}
+use Rattle.meaning.specs.Search.{cycle, dead}
+use Rattle.problem.specs.Arcs.{Net, at, arcsFrom}
+use Rattle.problem.specs.Laid.{arcs, sizeOf}
+use Rattle.problem.proofs.Laying.{clause-last, clause-ends, size-most}
 use Rattle.held.specs.Held.{factsIn}
 use Rattle.search.specs.Listing.{Keeps}
 use Rattle.search.proofs.Dead.{dead-all}
 use Rattle.search.proofs.Keeping.{keeps-none, keep-cycle, put-length}
 use Rattle.search.proofs.listing.put_cycles.Statement.{statement}
 use Rattle.search.proofs.listing.put_cycles.Tie as tie
-use Rattle.search.proofs.listing.put_cycles.Reads as reads
-use Rattle.search.proofs.listing.put_cycles.Lts as lts
-use Rattle.held.proofs.tested_with.Reads as tested-with-reads
-use Rattle.search.proofs.listing.put_row.Reads as put-row-reads
 
 none-kept : (bytes : List ℕ) (count : ℕ) (g : Net) (j : ℕ) (fs : List Alternative) → Keeps bytes bytes count (map (λ a. cycle (a ∷ fs)) (arcsFrom g j 0))
 unfolding arcsFrom

@@ -1,15 +1,10 @@
 -- `search::listing::put_row` meets its contract: the row is written where there is room. Assumes nothing.
-use mathlib.Core.Path.{_≡_, sym, _∙_}
-use Prim.Native.Nat.{_+_, _*_, _<_, _≤_}
+use mathlib.Core.Path.{sym, _∙_}
 use native.Mathlib.Omega.{arith}
-use lib.ListN.{length}
 use Rattle.search.proofs.Keeping.{put-fits, put-not}
 use borrow.Author.Needs.{needs}
 use Rattle.search.proofs.listing.put_row.Statement.{statement}
 use Rattle.search.proofs.listing.put_row.Tie as tie
-use Rattle.search.proofs.listing.put_row.Reads as reads
-use Rattle.search.proofs.listing.put_row.Lts as lts
-use Rattle.lent.proofs.put_bytes.Reads as put-bytes-reads
 
 mul-from : tie.Need-mul-from
 mul-from c = search needs

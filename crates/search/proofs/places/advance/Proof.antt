@@ -1,7 +1,6 @@
 -- `search::places::advance` meets its contract: the positions passed can't go on, so the next standing is that of those left. Assumes nothing.
-use mathlib.Core.Path.{_≡_, refl, sym, ap, _∙_, subst}
-use mathlib.Core.Bool.{true, false, true≢false, false≢true}
-use mathlib.Core.Option.{some, none}
+use mathlib.Core.Path.{_≡_, refl, sym, ap, _∙_}
+use mathlib.Core.Bool.{true≢false, false≢true}
 use Prim.Native.Nat.{ℕ, _+_, _-_, _<_, _≤_}
 use native.Mathlib.Omega.{arith}
 use native.Mathlib.Numerals.{add-one}
@@ -14,8 +13,6 @@ use Rattle.problem.proofs.Laying.{clause-last, size-most}
 use Rattle.search.proofs.Ranks.{next-none, next-back, next-on, inside-on}
 use Rattle.search.proofs.places.advance.Statement.{statement}
 use Rattle.search.proofs.places.advance.Tie as tie
-use Rattle.search.proofs.places.advance.Reads as reads
-use Rattle.search.proofs.places.advance.Lts as lts
 
 abbrev Inv-loop : tie.InvT-loop
 Inv-loop p k picks i₀ i = (next (clausesIn p) (take i picks) ≡ next (clausesIn p) (take k picks)) × (i ≤ k)

@@ -1,20 +1,14 @@
 -- `search::places::rank_of` meets its contract: the rank of the positions from i on among the clauses from i on, and their product. Assumes nothing.
-use mathlib.Core.Path.{_≡_, refl, sym, ap, _∙_}
-use Prim.Native.Nat.{ℕ, _+_, _-_, _*_, _^_, _<_, _≤_}
+use mathlib.Core.Path.{_≡_, sym, ap, _∙_}
+use Prim.Native.Nat.{ℕ, _+_, _-_, _*_, _≤_}
 use native.Mathlib.Omega.{arith}
 use lib.ListN.{length, take, drop}
 use borrow.Author.Needs.{needs}
 use Rattle.meaning.specs.Plain.{product, rank}
-use Rattle.problem.specs.Arcs.{at}
-use Rattle.problem.specs.Laid.{sizeOf, clausesFrom}
+use Rattle.problem.specs.Laid.{clausesFrom}
 use Rattle.search.proofs.Ranks.{product-small, product-grown, rank-grown, rank-small, rank-end}
 use Rattle.search.proofs.places.rank_of.Statement.{statement}
 use Rattle.search.proofs.places.rank_of.Tie as tie
-use Rattle.search.proofs.places.rank_of.Reads as reads
-use Rattle.search.proofs.places.rank_of.Lts as lts
-use Rattle.search.proofs.places.size.Reads as size-reads
-use Rattle.search.proofs.places.under.Reads as under-reads
-use Rattle.search.proofs.places.wide.Reads as wide-reads
 
 abbrev Inv-loop : tie.InvT-loop
 Inv-loop p k picks all₀ before₀ i₀ all before i = (all ≡ product (clausesFrom p i (p .m - i))) × (before ≡ rank (clausesFrom p i (p .m - i)) (drop i (take k picks))) × (i ≤ k)

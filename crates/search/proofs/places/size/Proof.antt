@@ -1,17 +1,13 @@
 -- `search::places::size` meets its contract: a clause's numbers rise. Assumes nothing.
-use mathlib.Core.Path.{_≡_, sym, ap, _∙_}
-use Prim.Native.Nat.{ℕ, _+_, _-_}
+use mathlib.Core.Path.{ap, _∙_}
+use Prim.Native.Nat.{ℕ, _-_}
 use native.Mathlib.Omega.{arith}
 use native.Mathlib.Numerals.{add-one}
 use Rattle.problem.specs.Arcs.{at}
-use Rattle.problem.specs.Laid.{sizeOf}
 use Rattle.problem.proofs.Laying.{clause-last}
 use borrow.Author.Needs.{needs}
 use Rattle.search.proofs.places.size.Statement.{statement}
 use Rattle.search.proofs.places.size.Tie as tie
-use Rattle.search.proofs.places.size.Reads as reads
-use Rattle.search.proofs.places.size.Lts as lts
-use Rattle.search.proofs.places.wide.Reads as wide-reads
 
 add-wide : tie.Need-add-wide
 add-wide c = search needs

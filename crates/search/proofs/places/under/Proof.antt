@@ -1,16 +1,12 @@
 -- `search::places::under` meets its contract: the product of the clauses from i on. Assumes nothing.
-use mathlib.Core.Path.{_≡_, refl, sym, ap, _∙_}
-use Prim.Native.Nat.{ℕ, _+_, _-_, _*_, _^_, _<_, _≤_}
+use mathlib.Core.Path.{_≡_, sym, ap, _∙_}
+use Prim.Native.Nat.{ℕ, _-_, _*_, _≤_}
 use native.Mathlib.Omega.{arith}
-use borrow.Author.Needs.{needs}
 use Rattle.meaning.specs.Plain.{product}
-use Rattle.problem.specs.Laid.{sizeOf, clausesFrom}
+use Rattle.problem.specs.Laid.{clausesFrom}
 use Rattle.search.proofs.Ranks.{product-small, product-grown, product-end}
 use Rattle.search.proofs.places.under.Statement.{statement}
 use Rattle.search.proofs.places.under.Tie as tie
-use Rattle.search.proofs.places.under.Reads as reads
-use Rattle.search.proofs.places.under.Lts as lts
-use Rattle.search.proofs.places.size.Reads as size-reads
 
 abbrev Inv-loop : tie.InvT-loop
 Inv-loop p k all₀ i₀ all i = (all ≡ product (clausesFrom p i (p .m - i))) × (k ≤ i) × (i ≤ p .m)

@@ -1,5 +1,5 @@
 -- `search::standing::chosen_of` meets its contract: the alternatives of the positions from i on are held. Assumes nothing.
-use mathlib.Core.Path.{_≡_, refl, sym, ap, _∙_}
+use mathlib.Core.Path.{_≡_, sym, ap, _∙_}
 use mathlib.Core.List.{List, _∷_}
 use Prim.Native.Nat.{ℕ, _+_, _-_, _<_, _≤_}
 use native.Mathlib.Omega.{arith}
@@ -13,10 +13,6 @@ use Rattle.search.specs.Standing.{chosenFacts}
 use Rattle.search.proofs.Numbers.{chosen-front, chosen-end}
 use Rattle.search.proofs.standing.chosen_of.Statement.{statement}
 use Rattle.search.proofs.standing.chosen_of.Tie as tie
-use Rattle.search.proofs.standing.chosen_of.Reads as reads
-use Rattle.search.proofs.standing.chosen_of.Lts as lts
-use Rattle.held.proofs.no_facts.Reads as no-facts-reads
-use Rattle.held.proofs.put.Reads as put-reads
 
 abbrev Inv-loop : tie.InvT-loop
 Inv-loop p picks f₀ i₀ f i = (held f ≡ chosenFacts (p .starts) i (drop i (take (p .m) picks))) × (f .at + p .m ≡ places + i) × (i ≤ p .m)

@@ -1,9 +1,9 @@
 -- `search::standing::facts_of` meets its contract: the positions still to come, put before what the buffer holds, give the facts of the standing. Assumes nothing.
-use mathlib.Core.Path.{_≡_, refl, sym, ap, _∙_, subst}
+use mathlib.Core.Path.{_≡_, sym, ap, _∙_}
 use mathlib.Core.List.{[]}
-use Prim.Native.Nat.{ℕ, _+_, _-_, _<_, _≤_}
+use Prim.Native.Nat.{_+_, _-_, _<_, _≤_}
 use native.Mathlib.Omega.{arith}
-use lib.ListN.{length, take, drop, length-take}
+use lib.ListN.{length, take, drop}
 use borrow.Author.Needs.{needs}
 use native.Mathlib.Numerals.{add-one}
 use Rattle.problem.specs.Arcs.{at}
@@ -15,9 +15,6 @@ use Rattle.search.specs.Standing.{standingFacts}
 use Rattle.search.proofs.Numbers.{standing-step, all-taken}
 use Rattle.search.proofs.standing.facts_of.Statement.{statement}
 use Rattle.search.proofs.standing.facts_of.Tie as tie
-use Rattle.search.proofs.standing.facts_of.Reads as reads
-use Rattle.search.proofs.standing.facts_of.Lts as lts
-use Rattle.search.proofs.standing.taking.Reads as taking-reads
 
 abbrev Inv-loop : tie.InvT-loop
 Inv-loop p k picks f₀ c₀ f c = (standingFacts (p .starts) c (drop c (take k picks)) (held f) ≡ standingFacts (p .starts) 0 (take k picks) []) × (f .at ≤ places) × (places ≤ f .at + at (p .starts) c) × (c ≤ k)

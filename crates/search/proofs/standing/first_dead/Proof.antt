@@ -1,8 +1,7 @@
 -- `search::standing::first_dead` meets its contract: none of the clauses passed is dead. Assumes nothing.
-use mathlib.Core.Path.{_≡_, refl, sym, ap, _∙_, subst}
-use Prim.Native.Nat.{ℕ, _+_, _-_, _<_, _≤_}
+use mathlib.Core.Path.{_≡_, sym, ap, _∙_}
+use Prim.Native.Nat.{ℕ, _-_, _<_, _≤_}
 use native.Mathlib.Omega.{arith}
-use borrow.Author.Needs.{needs}
 use Rattle.meaning.specs.Decision.{sound}
 use Rattle.meaning.specs.Search.{firstDead}
 use Rattle.problem.specs.Laid.{clausesFrom}
@@ -10,9 +9,6 @@ use Rattle.held.specs.Held.{factsIn}
 use Rattle.search.proofs.Dead.{ahead, ahead-zero, first-step, first-found, first-none}
 use Rattle.search.proofs.standing.first_dead.Statement.{statement}
 use Rattle.search.proofs.standing.first_dead.Tie as tie
-use Rattle.search.proofs.standing.first_dead.Reads as reads
-use Rattle.search.proofs.standing.first_dead.Lts as lts
-use Rattle.search.proofs.standing.is_dead.Reads as is-dead-reads
 
 abbrev Inv-loop : tie.InvT-loop
 Inv-loop p f k d₀ d = (firstDead sound (factsIn p f) (clausesFrom p k (p .m - k)) ≡ ahead (d - k) (firstDead sound (factsIn p f) (clausesFrom p d (p .m - d)))) × (k ≤ d) × (d ≤ p .m)

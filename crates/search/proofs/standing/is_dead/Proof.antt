@@ -1,10 +1,8 @@
 -- `search::standing::is_dead` meets its contract: whether the arcs still to come are dead is whether the clause is. Assumes nothing.
-use mathlib.Core.Path.{_≡_, refl, sym, ap, _∙_, subst}
-use mathlib.Core.Bool.{true, false}
-use Prim.Native.Nat.{ℕ, _+_, _-_, _<_, _≤_}
+use mathlib.Core.Path.{_≡_, sym, ap, _∙_}
+use Prim.Native.Nat.{ℕ, _+_, _-_, _≤_}
 use native.Mathlib.Omega.{arith}
 use native.Mathlib.Numerals.{add-one}
-use borrow.Author.Needs.{needs}
 use Rattle.meaning.specs.Decision.{sound}
 use Rattle.meaning.specs.Search.{dead}
 use Rattle.problem.specs.Arcs.{at, arcsFrom}
@@ -14,9 +12,6 @@ use Rattle.held.specs.Held.{factsIn}
 use Rattle.search.proofs.Dead.{dead-found, dead-step, dead-end}
 use Rattle.search.proofs.standing.is_dead.Statement.{statement}
 use Rattle.search.proofs.standing.is_dead.Tie as tie
-use Rattle.search.proofs.standing.is_dead.Reads as reads
-use Rattle.search.proofs.standing.is_dead.Lts as lts
-use Rattle.held.proofs.tested_with.Reads as tested-with-reads
 
 abbrev Inv-loop : tie.InvT-loop
 Inv-loop p f d end j₀ j = (dead sound (factsIn p f) (arcsFrom (arcs p) j (end - j)) ≡ dead sound (factsIn p f) (clauseOf p d)) × (j ≤ end)

@@ -2,7 +2,6 @@
 use mathlib.Core.Path.{_≡_, refl, sym, ap, _∙_}
 use Prim.Native.Nat.{ℕ, _+_, _-_, _<_, _≤_}
 use native.Mathlib.Omega.{arith}
-use borrow.Author.Needs.{needs}
 use Rattle.problem.specs.Arcs.{at}
 use Rattle.problem.proofs.Laying.{position-below}
 use Rattle.held.specs.Held.{held}
@@ -10,9 +9,6 @@ use Rattle.search.specs.Standing.{takes}
 use Rattle.search.proofs.Numbers.{takes-step, takes-last}
 use Rattle.search.proofs.standing.taking.Statement.{statement}
 use Rattle.search.proofs.standing.taking.Tie as tie
-use Rattle.search.proofs.standing.taking.Reads as reads
-use Rattle.search.proofs.standing.taking.Lts as lts
-use Rattle.held.proofs.put.Reads as put-reads
 
 abbrev Inv-loop : tie.InvT-loop
 Inv-loop k pick g₀ j₀ last g j = (takes j (last - j) (held g) ≡ takes j₀ (last - j₀) (held g₀)) × (g .at + j ≡ g₀ .at + j₀) × (j₀ ≤ j) × (j ≤ last)

@@ -1,0 +1,63 @@
+-- Refusals 1 to 8 of a call, by those of its problem. Assumes nothing.
+use mathlib.Core.Path.{_≡_, refl, sym, ap₂, _∙_}
+use mathlib.Core.List.{List}
+use Prim.Native.Nat.{ℕ, _<_, _≤_}
+use native.Mathlib.Omega.{arith}
+use borrow.Author.Tests.{lt-leb, le-leb}
+use lib.Dec.{leb, leb→le}
+use lib.IntN.{ℤ}
+use lib.ListN.{length}
+use Rattle.meaning.specs.Limits.{mostAllowance}
+use Rattle.meaning.specs.Screen.{Input, problemTests, planTests, firstFailed, problemRefusal, refusal}
+use Rattle.meaning.proofs.Accepted.{Passed, all-passed, front-first, passed-over, plan-problem}
+use Rattle.meaning.proofs.Booleans.{both-left, both-right}
+use Rattle.planner.specs.Call.{call}
+
+module _ (i : Input) where
+  pub refused-problem : 0 < problemRefusal (i .lent) → problemRefusal (i .lent) ≡ refusal i
+  unfolding problemRefusal refusal
+  refused-problem h = sym (front-first 1 (problemTests (i .lent)) (planTests i) h)
+
+  module _ (z : problemRefusal (i .lent) ≡ 0) where
+    -- where the problem is accepted, 7 and 8 are left
+    left : refusal i ≡ firstFailed 7 (planTests i)
+    unfolding problemRefusal refusal problemTests
+    left = passed-over 1 (problemTests (i .lent)) (planTests i) (all-passed 1 (problemTests (i .lent)) (omega arith) z)
+
+    pub refused-allowance : mostAllowance < i .allowance → 7 ≡ refusal i
+    unfolding planTests firstFailed
+    refused-allowance h = sym (rw (left, lt-leb _ mostAllowance h) refl)
+
+    module _ (a : i .allowance ≤ mostAllowance) where
+      pub refused-times : i .times < i .lent .n → 8 ≡ refusal i
+      unfolding planTests firstFailed
+      refused-times h = sym (rw (left, le-leb _ mostAllowance a, lt-leb _ _ h) refl)
+
+      module _ (t : i .lent .n ≤ i .times) where
+        pub refused-picks : i .picks < length (i .lent .counts) → 8 ≡ refusal i
+        unfolding planTests firstFailed
+        refused-picks h = sym (rw (left, le-leb _ mostAllowance a, le-leb _ _ t, lt-leb _ _ h) refl)
+
+        pub taken : length (i .lent .counts) ≤ i .picks → 0 ≡ refusal i
+        unfolding planTests firstFailed
+        taken h = sym (rw (left, le-leb _ mostAllowance a, le-leb _ _ t, le-leb _ _ h) refl)
+
+-- what an accepted call asks besides its problem
+pub record Room (i : Input) : Type 0 where
+  pub allowed : i .allowance ≤ mostAllowance
+  pub times : i .lent .n ≤ i .times
+  pub picks : length (i .lent .counts) ≤ i .picks
+
+pub room-of : (i : Input) → refusal i ≡ 0 → Room i
+unfolding planTests
+room-of i e =
+    let p : Passed (planTests i) = all-passed 7 (planTests i) (omega arith) (sym (left i (plan-problem i e)) ∙ e) in
+    record {
+      allowed = leb→le (i .allowance) mostAllowance (p .0);
+      times = leb→le (i .lent .n) (i .times) (both-left (leb (i .lent .n) (i .times)) (leb (length (i .lent .counts)) (i .picks)) (p .1 .0));
+      picks = leb→le (length (i .lent .counts)) (i .picks) (both-right (leb (i .lent .n) (i .times)) (leb (length (i .lent .counts)) (i .picks)) (p .1 .0));
+    }
+
+-- the slices as they were lent, and as they are once filled, are as long
+pub same-call : (n : ℕ) (triples : List ℤ) (counts : List ℕ) (allowance r s t u room : ℕ) → r ≡ s → t ≡ u → refusal (call n triples counts allowance r t room) ≡ refusal (call n triples counts allowance s u room)
+same-call n triples counts allowance r s t u room e f = ap₂ (λ (x y : ℕ). refusal (call n triples counts allowance x y room)) e f

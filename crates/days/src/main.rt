@@ -1,0 +1,122 @@
+// Prints the worked days of 01, one to a line: the answer, and the lent timetable, picks and reasons as they are left. All of that is filled
+// with 7s before each call, so that what was not settled would show.
+
+// How many elements are lent: the timetable, the picks, the reasons, and the reasons of D4's second half.
+const TIMES: usize = 6;
+
+const PICKS: usize = 4;
+
+const ROOM: usize = 64;
+
+const TIGHT: usize = 47;
+
+// A reply at its longest.
+const REPLY: usize = 1024;
+
+// Plans a day over what is lent, and shows it.
+fn show_over(
+    name: &[u8],
+    n: u32,
+    triples: &[i32],
+    counts: &[u32],
+    allowance: u32,
+    reasons: &mut [u8],
+) {
+    let mut times = [7i32; TIMES];
+    let mut picks = [7u8; PICKS];
+    let answer = planner::plan(
+        n,
+        triples,
+        counts,
+        allowance,
+        &mut times[..],
+        &mut picks[..],
+        reasons,
+    );
+    let mut reply = [0u8; REPLY];
+    let said = exchange::put_answer(&mut reply[..], answer);
+    let end = exchange::put_lent(&mut reply[..], said, &times[..], &picks[..], reasons);
+    io::write_all(1, name);
+    io::write_all(1, b": ");
+    write_front(&reply[..], end);
+    io::write_all(1, b"\n");
+}
+
+// Writes the first so many bytes.
+fn write_front(text: &[u8], bytes: usize) {
+    if bytes <= text.len() {
+        io::write_all(1, &text[..bytes]);
+    }
+}
+
+// A day with an allowance.
+fn show_in(name: &[u8], n: u32, triples: &[i32], counts: &[u32], allowance: u32) {
+    let mut reasons = [7u8; ROOM];
+    show_over(name, n, triples, counts, allowance, &mut reasons[..]);
+}
+
+// A day with room for no more than two rows and 15 bytes.
+fn show_tight(name: &[u8], n: u32, triples: &[i32], counts: &[u32]) {
+    let mut reasons = [7u8; TIGHT];
+    show_over(name, n, triples, counts, 1000, &mut reasons[..]);
+}
+
+// A day with the allowance of 01's days.
+fn show(name: &[u8], n: u32, triples: &[i32], counts: &[u32]) {
+    show_in(name, n, triples, counts, 1000);
+}
+
+// D1 to D4.
+fn first_days() {
+    let d1 = [0, 1, -30];
+    let one = [1u32];
+    show(b"D1", 2, &d1[..], &one[..]);
+    let d2 = [2, 1, 6, 0, 3, 4, 2, 0, 1, 3, 0, -5, 0, 2, -2, 1, 2, -7];
+    let pairs = [2u32, 4, 6];
+    show(b"D2", 4, &d2[..], &pairs[..]);
+    show_in(b"D3, allowance 4", 4, &d2[..], &pairs[..], 4);
+    show_in(b"D3, allowance 0", 4, &d2[..], &pairs[..], 0);
+    let d4 = [0, 1, -1, 1, 0, -1];
+    let two = [1u32, 2];
+    show(b"D4", 2, &d4[..], &two[..]);
+    show_tight(b"D4, room of 47", 2, &d4[..], &two[..]);
+}
+
+// D5 to D8.
+fn middle_days() {
+    let one = [1u32];
+    let two = [1u32, 2];
+    let d5 = [0, 0, -1];
+    show(b"D5", 1, &d5[..], &one[..]);
+    let d5b = [0, 0, 0];
+    show(b"D5 with 0,0,0", 1, &d5b[..], &one[..]);
+    show(b"D6", 3, &d5[0..0], &one[0..0]);
+    let empty = [0u32];
+    show(b"D7", 1, &d5[0..0], &empty[..]);
+    let d8 = [0, 1, 5, 1, 0, -5];
+    show(b"D8", 2, &d8[..], &two[..]);
+    let d8b = [0, 1, 5, 1, 0, -6];
+    show(b"D8 with -6", 2, &d8b[..], &two[..]);
+}
+
+// D9, D10 and the bounds.
+fn last_days() {
+    let d9 = [0, 1, -10, 1, 2, -3, 0, 1, -5];
+    let ends = [1u32, 3];
+    show(b"D9", 3, &d9[..], &ends[..]);
+    let d10 = [0, 1, -1, 0, 1, -1, 1, 0, 0];
+    let more = [2u32, 3];
+    show(b"D10", 2, &d10[..], &more[..]);
+    let one = [1u32];
+    let taken = [0, 1, 100000];
+    show(b"Bound 100,000", 2, &taken[..], &one[..]);
+    let refused = [0, 1, 100001];
+    show(b"Bound 100,001", 2, &refused[..], &one[..]);
+    show(b"17 events", 17, &taken[..], &one[..]);
+}
+
+fn main() {
+    first_days();
+    middle_days();
+    last_days();
+}

@@ -1,0 +1,16 @@
+// The exchange of lines: the parts of a request read into lent memory, and replies written into a lent buffer.
+mod replies;
+mod requests;
+
+pub use replies::put_answer;
+pub use replies::put_bound;
+pub use replies::put_lent;
+pub use replies::put_panel;
+pub use replies::put_verdict;
+pub use requests::Counted;
+pub use requests::Head;
+pub use requests::Lists;
+pub use requests::byte_list;
+pub use requests::head_at;
+pub use requests::lists_at;
+pub use requests::signed_list;

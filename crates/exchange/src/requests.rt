@@ -1,0 +1,159 @@
+// Reading a request: what its line asks for, with its lists in lent memory. The lengths of that memory are the limits of the counts.
+ghost use lib.ListN.{length};
+ghost use Rattle.exchange.specs.Limits.{CountIn, ListsIn, HeadIn};
+use dialogue::Listed;
+use dialogue::Next;
+
+// The largest unsigned 32-bit number.
+const ANY: u32 = 0xffff_ffff;
+
+// A list that is led by its count: how many numbers it holds, and the place after it.
+pub enum Counted {
+    Of { count: usize, place: usize },
+    Malformed,
+}
+
+// A problem's two lists: how many numbers each holds, and the place after them.
+pub enum Lists {
+    Of {
+        triples: usize,
+        counts: usize,
+        place: usize,
+    },
+    Malformed,
+}
+
+// What a plan's request says before the lists: the events, the allowance, how many elements are lent, and the place after it.
+pub enum Head {
+    Of {
+        n: u32,
+        allowance: u32,
+        timetable: usize,
+        picks: usize,
+        reasons: usize,
+        place: usize,
+    },
+    Malformed,
+}
+
+// A count at `at`, `most` at most.
+fn count_at(line: &[u8], at: usize, most: usize) -> Counted
+    ensures { λ r. ⌜ CountIn most r ⌝ }
+{
+    let Next::Of { value, place } = dialogue::number_at(line, at, ANY) else {
+        return Counted::Malformed;
+    };
+    let count = value as usize;
+    if count <= most {
+        Counted::Of { count, place }
+    } else {
+        Counted::Malformed
+    }
+}
+
+// A count and so many signed numbers, into the front of `out`.
+pub fn signed_list(line: &[u8], at: usize, out: &mut [i32]) -> Counted
+    ensures { λ r. ⌜ CountIn (length (now (out .entry))) r ⌝ }
+{
+    let Counted::Of { count, place } = count_at(line, at, out.len()) else {
+        return Counted::Malformed;
+    };
+    match dialogue::list_signed(line, place, &mut out[..count]) {
+        Listed::Up(place) => Counted::Of { count, place },
+        Listed::Malformed => Counted::Malformed,
+    }
+}
+
+// A count and so many unsigned numbers, into the front of `out`.
+fn number_list(line: &[u8], at: usize, out: &mut [u32]) -> Counted
+    ensures { λ r. ⌜ CountIn (length (now (out .entry))) r ⌝ }
+{
+    let Counted::Of { count, place } = count_at(line, at, out.len()) else {
+        return Counted::Malformed;
+    };
+    match dialogue::list_numbers(line, place, &mut out[..count]) {
+        Listed::Up(place) => Counted::Of { count, place },
+        Listed::Malformed => Counted::Malformed,
+    }
+}
+
+// A count and so many bytes, into the front of `out`.
+pub fn byte_list(line: &[u8], at: usize, out: &mut [u8]) -> Counted
+    ensures { λ r. ⌜ CountIn (length (now (out .entry))) r ⌝ }
+{
+    let Counted::Of { count, place } = count_at(line, at, out.len()) else {
+        return Counted::Malformed;
+    };
+    match dialogue::list_bytes(line, place, &mut out[..count]) {
+        Listed::Up(place) => Counted::Of { count, place },
+        Listed::Malformed => Counted::Malformed,
+    }
+}
+
+// A problem's triples and clause counts.
+pub fn lists_at(line: &[u8], at: usize, triples: &mut [i32], counts: &mut [u32]) -> Lists
+    ensures { λ r. ⌜ ListsIn (length (now (triples .entry))) (length (now (counts .entry))) r ⌝ }
+{
+    let Counted::Of { count: k, place } = signed_list(line, at, triples) else {
+        return Lists::Malformed;
+    };
+    match number_list(line, place, counts) {
+        Counted::Of { count: m, place } => Lists::Of {
+            triples: k,
+            counts: m,
+            place,
+        },
+        Counted::Malformed => Lists::Malformed,
+    }
+}
+
+// What a plan's request says before the lists; the three most are how many elements there are to lend.
+pub fn head_at(
+    line: &[u8],
+    at: usize,
+    most_times: usize,
+    most_picks: usize,
+    most_reasons: usize,
+) -> Head
+    ensures { λ r. ⌜ HeadIn «most_times» «most_picks» «most_reasons» r ⌝ }
+{
+    let Next::Of { value: n, place: a } = dialogue::number_at(line, at, ANY) else {
+        return Head::Malformed;
+    };
+    let Next::Of {
+        value: allowance,
+        place: b,
+    } = dialogue::number_at(line, a, ANY)
+    else {
+        return Head::Malformed;
+    };
+    let Counted::Of {
+        count: timetable,
+        place: c,
+    } = count_at(line, b, most_times)
+    else {
+        return Head::Malformed;
+    };
+    let Counted::Of {
+        count: picks,
+        place: d,
+    } = count_at(line, c, most_picks)
+    else {
+        return Head::Malformed;
+    };
+    let Counted::Of {
+        count: reasons,
+        place,
+    } = count_at(line, d, most_reasons)
+    else {
+        return Head::Malformed;
+    };
+    Head::Of {
+        n,
+        allowance,
+        timetable,
+        picks,
+        reasons,
+        place,
+    }
+}

@@ -1,0 +1,104 @@
+-- `planned` is safe and ends. Assumes nothing.
+use Prim.Native.Nat.{_-_}
+use native.Mathlib.Omega.{arith}
+use borrow.Author.Needs.{needs}
+use lib.ListN.{length-take}
+use Rattle.table.proofs.operations.planned.Statement.{statement}
+use Rattle.table.proofs.operations.planned.Tie as tie
+
+lists-at-requires : tie.Need-lists-at-requires
+lists-at-requires c κs = search needs
+
+enum-known-k : tie.Need-enum-known-k
+enum-known-k c = search needs
+
+enum-told : tie.Need-enum-told
+enum-told c = search needs
+
+same-length : tie.Need-same-length
+same-length c = search needs
+
+same-length-2 : tie.Need-same-length-2
+same-length-2 c = search needs
+
+returns : tie.Need-returns
+returns c = search needs
+
+same-length-3 : tie.Need-same-length-3
+same-length-3 c = search needs
+
+same-length-4 : tie.Need-same-length-4
+same-length-4 c = search needs
+
+returns-2 : tie.Need-returns-2
+returns-2 c = search needs
+
+slice-reshare-prefix-lent : tie.Need-slice-reshare-prefix-lent
+slice-reshare-prefix-lent c =
+    let h = rw (c .before .before .k .given .1) at (c .before .before .before .before .before .before .before .lists-at .ensures) in
+    omega arith
+
+slice-aggregate-lent : tie.Need-slice-aggregate-lent
+slice-aggregate-lent c =
+    let h = rw (c .before .before .before .k .given .1) at (c .before .before .before .before .before .before .before .before .lists-at .ensures) in
+    simp length-take (omega arith)
+
+slice-reshare-prefix-lent-2 : tie.Need-slice-reshare-prefix-lent-2
+slice-reshare-prefix-lent-2 c =
+    let h = rw (c .before .before .before .k .given .1) at (c .before .before .before .before .before .before .before .before .lists-at .ensures) in
+    omega arith
+
+slice-aggregate-lent-2 : tie.Need-slice-aggregate-lent-2
+slice-aggregate-lent-2 c =
+    let h = rw (c .before .before .before .before .k .given .1) at (c .before .before .before .before .before .before .before .before .before .lists-at .ensures) in
+    simp length-take (omega arith)
+
+lent-requires : tie.Need-lent-requires
+lent-requires c κs = search needs
+
+same-length-5 : tie.Need-same-length-5
+same-length-5 c = search needs
+
+same-length-6 : tie.Need-same-length-6
+same-length-6 c = search needs
+
+same-length-7 : tie.Need-same-length-7
+same-length-7 c = search needs
+
+same-length-8 : tie.Need-same-length-8
+same-length-8 c = search needs
+
+same-length-9 : tie.Need-same-length-9
+same-length-9 c = search needs
+
+same-length-10 : tie.Need-same-length-10
+same-length-10 c = search needs
+
+returns-3 : tie.Need-returns-3
+returns-3 c = search needs
+
+pub planned-spec : {M : Type 1} → statement M
+planned-spec =
+    tie.close
+    (tie.spec
+    lists-at-requires
+    enum-known-k
+    enum-told
+    same-length
+    same-length-2
+    returns
+    same-length-3
+    same-length-4
+    returns-2
+    slice-reshare-prefix-lent
+    slice-aggregate-lent
+    slice-reshare-prefix-lent-2
+    slice-aggregate-lent-2
+    lent-requires
+    same-length-5
+    same-length-6
+    same-length-7
+    same-length-8
+    same-length-9
+    same-length-10
+    returns-3)

@@ -1,0 +1,173 @@
+//! The answer to a request by the definitions, and its reply as the dialogue writes it.
+
+use crate::dialogue::{Asked, Request, Spaced};
+use crate::lamps::{dark, panel, Panel};
+use crate::plain::latest_timetable;
+use crate::problem::{Lent, Problem, Refusal, MOST_ALLOWANCE};
+use crate::reasons::{self, FILLING, ROW};
+use crate::search::{search, Ending, Outcome, Row};
+use crate::slider::slide;
+use std::fmt::{self, Display};
+
+#[derive(Clone, Debug)]
+pub enum Reply {
+    Malformed,
+    Screen(Screen),
+    Judged(Result<bool, Refusal>),
+    Lamps(Refusal, Panel),
+    Bound(Result<i64, Refusal>),
+}
+
+/// What the screen says, and every lent element afterwards.
+#[derive(Clone, Debug)]
+pub struct Screen {
+    pub answer: Answer,
+    pub timetable: Vec<i64>,
+    pub picks: Vec<u8>,
+    /// All 255 until `list` writes the rows.
+    pub reasons: Vec<u8>,
+    /// The rows that stand in the reasons.
+    pub rows: Vec<Row>,
+}
+
+#[derive(Clone, Copy, Debug, PartialEq, Eq)]
+pub enum Answer {
+    Plan { visits: u64, before: u64 },
+    NoPlan { visits: u64, before: u64, rows: u64 },
+    Unlisted { visits: u64, before: u64, rows: u64 },
+    Stopped { visits: u64, before: u64 },
+    Refused(Refusal),
+}
+
+/// The answer to a request; None is a malformed line.
+pub fn answer(request: Option<&Request>) -> Reply {
+    match request {
+        None => Reply::Malformed,
+        Some(Request::Plan(asked)) => Reply::Screen(plan(asked)),
+        Some(Request::Reasons { lent, list }) => {
+            Reply::Judged(lent.accepted().map(|problem| reasons::read(&problem, list)))
+        }
+        Some(Request::Times { lent, times }) => Reply::Judged(read_timetable(lent, times)),
+        Some(Request::Lamps { lent }) => match lent.accepted() {
+            Ok(problem) => Reply::Lamps(0, panel(&problem)),
+            Err(number) => Reply::Lamps(number, dark()),
+        },
+        Some(Request::Slide { kind, position, used }) => Reply::Bound(slide(*kind, *position, *used)),
+    }
+}
+
+/// The accepted problem of a plan request, or the lowest refusal among 1 to 8.
+pub fn accepted(asked: &Asked) -> Result<Problem, Refusal> {
+    let problem = asked.lent.accepted()?;
+    if asked.allowance > MOST_ALLOWANCE {
+        return Err(7);
+    }
+    if asked.timetable < problem.events || asked.picks < problem.clauses.len() {
+        return Err(8);
+    }
+    Ok(problem)
+}
+
+fn plan(asked: &Asked) -> Screen {
+    match accepted(asked) {
+        Err(number) => cleared(asked, Answer::Refused(number)),
+        Ok(problem) => {
+            let outcome = search(&problem, u64::from(asked.allowance), asked.reasons / ROW);
+            let mut screen = cleared(asked, told(&outcome, asked.reasons / ROW));
+            screen.fill(&problem, outcome);
+            screen
+        }
+    }
+}
+
+/// An answer with all that was lent cleared.
+fn cleared(asked: &Asked, answer: Answer) -> Screen {
+    Screen {
+        answer,
+        timetable: vec![1; asked.timetable],
+        picks: vec![FILLING; asked.picks],
+        reasons: vec![FILLING; asked.reasons],
+        rows: Vec::new(),
+    }
+}
+
+/// What is said of an outcome where there is room for so many rows.
+fn told(outcome: &Outcome, room: usize) -> Answer {
+    let Outcome { visits, before, rows, .. } = *outcome;
+    match outcome.ending {
+        Ending::Plan(_) => Answer::Plan { visits, before },
+        Ending::NoPlan if rows > room as u64 => Answer::Unlisted { visits, before, rows },
+        Ending::NoPlan => Answer::NoPlan { visits, before, rows },
+        Ending::Stopped => Answer::Stopped { visits, before },
+    }
+}
+
+impl Screen {
+    /// Writes over the cleared memory what the outcome calls for; the rows wait for `list`.
+    fn fill(&mut self, problem: &Problem, outcome: Outcome) {
+        if let Ending::Plan(picks) = &outcome.ending {
+            self.write_plan(problem, picks);
+        }
+        if let Answer::NoPlan { .. } = self.answer {
+            self.rows = outcome.listed;
+        }
+    }
+
+    fn write_plan(&mut self, problem: &Problem, picks: &[usize]) {
+        let times = latest_timetable(problem, picks).expect("the plan's selection holds");
+        self.timetable[..times.len()].copy_from_slice(&times);
+        for (place, pick) in picks.iter().enumerate() {
+            self.picks[place] = *pick as u8;
+        }
+    }
+
+    /// Writes the rows into the reasons, with cycles of this program's own choice.
+    pub fn list(&mut self, problem: &Problem) {
+        for (place, row) in self.rows.iter().enumerate() {
+            self.reasons[place * ROW..(place + 1) * ROW].copy_from_slice(&reasons::row_bytes(problem, *row));
+        }
+    }
+
+    /// The reply's text up to where the reasons begin.
+    pub fn front(&self) -> String {
+        format!("{} | {} | {} | ", self.answer, Spaced(&self.timetable), Spaced(&self.picks))
+    }
+}
+
+/// Yes exactly when the first n times keep the problem; 8 if there are fewer.
+fn read_timetable(lent: &Lent, times: &[i32]) -> Result<bool, Refusal> {
+    let problem = lent.accepted()?;
+    if times.len() < problem.events {
+        return Err(8);
+    }
+    let times: Vec<i64> = times.iter().map(|time| i64::from(*time)).collect();
+    Ok(problem.kept_by(&times))
+}
+
+impl Display for Answer {
+    fn fmt(&self, f: &mut fmt::Formatter) -> fmt::Result {
+        match self {
+            Answer::Plan { visits, before } => write!(f, "plan {visits} {before}"),
+            Answer::NoPlan { visits, before, rows } => write!(f, "none {visits} {before} {rows}"),
+            Answer::Unlisted { visits, before, rows } => write!(f, "unlisted {visits} {before} {rows}"),
+            Answer::Stopped { visits, before } => write!(f, "stopped {visits} {before}"),
+            Answer::Refused(number) => write!(f, "refused {number}"),
+        }
+    }
+}
+
+impl Display for Reply {
+    fn fmt(&self, f: &mut fmt::Formatter) -> fmt::Result {
+        match self {
+            Reply::Malformed => f.write_str("malformed"),
+            Reply::Screen(screen) => write!(f, "{}{}", screen.front(), Spaced(&screen.reasons)),
+            Reply::Judged(Ok(yes)) => f.write_str(if *yes { "yes" } else { "no" }),
+            Reply::Bound(Ok(bound)) => write!(f, "bound {bound}"),
+            Reply::Judged(Err(number)) | Reply::Bound(Err(number)) => write!(f, "refused {number}"),
+            Reply::Lamps(number, panel) => {
+                let Panel { lit, total, first, counts } = panel;
+                write!(f, "lamps {number} {lit} {total} {first} {}", Spaced(counts))
+            }
+        }
+    }
+}

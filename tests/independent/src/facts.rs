@@ -1,0 +1,150 @@
+//! The test of facts: all-pairs distances, the latest timetable, and a cycle below 0.
+
+use crate::problem::{Alternative, Problem, MOST_ALTERNATIVES, MOST_EVENTS};
+
+/// No path leads there. Far from overflow, whatever is added to it.
+const FAR: i64 = i64::MAX / 4;
+
+/// A set of row numbers: bit j for alternative j, bit 64 + j for its opposite.
+pub type Numbers = u128;
+
+/// The set that holds one number.
+pub fn one(number: usize) -> Numbers {
+    1 << number
+}
+
+/// The number of alternative j's opposite.
+pub fn opposite_of(number: usize) -> usize {
+    MOST_ALTERNATIVES + number
+}
+
+/// The numbers of a set, lowest first.
+pub fn members(numbers: Numbers) -> impl Iterator<Item = usize> {
+    (0..2 * MOST_ALTERNATIVES).filter(move |number| numbers & one(*number) != 0)
+}
+
+/// For facts that have a timetable: the least sum of a path from one event to another.
+#[derive(Clone)]
+pub struct Distances {
+    events: usize,
+    least: [[i64; MOST_EVENTS]; MOST_EVENTS],
+}
+
+impl Distances {
+    /// The distances without any fact.
+    pub fn without_facts(events: usize) -> Distances {
+        let mut least = [[FAR; MOST_EVENTS]; MOST_EVENTS];
+        for (event, row) in least.iter_mut().enumerate() {
+            row[event] = 0;
+        }
+        Distances { events, least }
+    }
+
+    /// The distances of the facts, each path by the events it may pass (Floyd–Warshall); None where a cycle is below 0.
+    pub fn all_pairs(events: usize, facts: impl Iterator<Item = Alternative>) -> Option<Distances> {
+        let mut distances = Distances::without_facts(events);
+        for fact in facts {
+            distances.offer(fact.y, fact.x, fact.c);
+        }
+        for passed in 0..events {
+            distances.pass(passed);
+        }
+        let cycle_below_0 = (0..events).any(|event| distances.least[event][event] < 0);
+        (!cycle_below_0).then_some(distances)
+    }
+
+    /// True if the alternative has a timetable together with the facts: its arc closes no cycle below 0.
+    pub fn allow(&self, alternative: Alternative) -> bool {
+        self.least[alternative.x][alternative.y] + alternative.c >= 0
+    }
+
+    /// The distances with one fact more; None where no timetable is left.
+    pub fn with(&self, fact: Alternative) -> Option<Distances> {
+        if !self.allow(fact) {
+            return None;
+        }
+        let mut more = self.clone();
+        for from in 0..self.events {
+            for to in 0..self.events {
+                more.offer(from, to, sum(sum(self.least[from][fact.y], fact.c), self.least[fact.x][to]));
+            }
+        }
+        Some(more)
+    }
+
+    /// The latest timetable: distances from the extra source, which has an arc of weight 0 to every event.
+    pub fn latest(&self) -> Vec<i64> {
+        let column = |event: usize| (0..self.events).map(move |from| self.least[from][event]);
+        (0..self.events).map(|event| column(event).fold(0, i64::min)).collect()
+    }
+
+    fn offer(&mut self, from: usize, to: usize, length: i64) {
+        let entry = &mut self.least[from][to];
+        *entry = length.min(*entry);
+    }
+
+    fn pass(&mut self, passed: usize) {
+        for from in 0..self.events {
+            for to in 0..self.events {
+                self.offer(from, to, sum(self.least[from][passed], self.least[passed][to]));
+            }
+        }
+    }
+}
+
+/// The sum of two lengths, FAR where one is.
+fn sum(one: i64, other: i64) -> i64 {
+    if one >= FAR || other >= FAR {
+        FAR
+    } else {
+        one + other
+    }
+}
+
+/// A cycle below 0 over the given numbers, as numbers in the order of the walk; None where there is none.
+pub fn cycle_below_0(problem: &Problem, numbers: Numbers) -> Option<Vec<usize>> {
+    let mut distances = Distances::without_facts(problem.events);
+    let mut taken = Vec::new();
+    for number in members(numbers) {
+        match distances.with(problem.arc(number)) {
+            Some(more) => distances = more,
+            None => return Some(closed_by(problem, &taken, number)),
+        }
+        taken.push(number);
+    }
+    None
+}
+
+/// The closing arc, then a shortest path over the taken ones from where it ends back to where it starts.
+fn closed_by(problem: &Problem, taken: &[usize], closing: usize) -> Vec<usize> {
+    let arc = problem.arc(closing);
+    let last_arcs = shortest_paths(problem, taken, arc.x);
+    let mut back = Vec::new();
+    let mut event = arc.y;
+    while event != arc.x {
+        let number = last_arcs[event].expect("a path leads back");
+        back.push(number);
+        event = problem.arc(number).y;
+    }
+    back.push(closing);
+    back.reverse();
+    back
+}
+
+/// Per event, the last arc of a shortest path from the start, where one leads there.
+fn shortest_paths(problem: &Problem, taken: &[usize], start: usize) -> Vec<Option<usize>> {
+    let mut length = vec![FAR; problem.events];
+    let mut last_arc = vec![None; problem.events];
+    length[start] = 0;
+    for _ in 0..problem.events {
+        for number in taken {
+            let arc = problem.arc(*number);
+            let reached = sum(length[arc.y], arc.c);
+            if reached < length[arc.x] {
+                length[arc.x] = reached;
+                last_arc[arc.x] = Some(*number);
+            }
+        }
+    }
+    last_arc
+}

@@ -1,0 +1,278 @@
+//! Ways of answering wrongly, to see that each is noticed (check-the-checker).
+
+use crate::answer::{accepted, answer, Answer, Reply, Screen};
+use crate::dialogue::{request, Request};
+use crate::problem::{Lent, Problem};
+use crate::reasons::{whole_reading, FILLING, GOES_ON, ROW};
+use crate::requests::closed_pair_not_below_0;
+use crate::search::Row;
+use crate::serve;
+use crate::slider::Use;
+
+/// What a way changes: the line before it is read, the request, the reply, or the texts that are written.
+enum Way {
+    Line(fn(&[u8]) -> Vec<u8>),
+    Request(fn(&mut Request)),
+    Reply(fn(&Request, &mut Reply)),
+    Screen(fn(&Problem, &mut Screen)),
+    Texts(fn(usize, String) -> Vec<String>),
+}
+
+const WAYS: [(&str, Way); 41] = [
+    ("visits one more", Way::Screen(|_, screen| change_numbers(screen, |visits, _, _| *visits += 1))),
+    (
+        "before one less",
+        Way::Screen(|_, screen| change_numbers(screen, |_, before, _| *before = before.saturating_sub(1))),
+    ),
+    ("rows one more", Way::Screen(|_, screen| change_numbers(screen, |_, _, rows| *rows += 1))),
+    (
+        "a time one later",
+        Way::Screen(|_, screen| {
+            if is_plan(screen) {
+                screen.timetable[0] += 1
+            }
+        }),
+    ),
+    ("all times one earlier", Way::Screen(all_earlier)),
+    ("a pick changed", Way::Screen(|_, screen| change_first(&mut screen.picks, |pick| pick < 4, |pick| pick ^ 1))),
+    ("a 7 left in the timetable", Way::Screen(|_, screen| change_last(&mut screen.timetable, |time| time == 1, 7))),
+    ("a 7 left in the picks", Way::Screen(|_, screen| change_last(&mut screen.picks, |pick| pick == FILLING, 7))),
+    ("a 7 left in the reasons", Way::Screen(|_, screen| change_last(&mut screen.reasons, |byte| byte == FILLING, 7))),
+    ("a refusal that clears nothing", Way::Reply(|_, reply| uncleared(reply))),
+    ("a cycle of sum 0 or more", Way::Screen(cycle_not_below_0)),
+    ("a cycle over an opposite that is no fact", Way::Screen(|_, screen| change_cycles(screen, |row| row[0] ^= 64))),
+    ("a broken cycle", Way::Screen(|_, screen| change_cycles(screen, broken))),
+    ("a 7 after a cycle's end", Way::Screen(|_, screen| change_cycles(screen, |row| row[ROW - 1] = 7))),
+    ("a cycle row left all 255", Way::Screen(|_, screen| change_cycles(screen, |row| row.fill(FILLING)))),
+    ("a mark with the next clause", Way::Screen(|_, screen| change_marks(screen, |row| row[0] += 1))),
+    ("a mark with a 0 after it", Way::Screen(|_, screen| change_marks(screen, |row| row[1] = 0))),
+    ("the first row missing", Way::Screen(|_, screen| row_missing(screen))),
+    ("rows written although they do not fit", Way::Screen(|_, screen| written_in_part(screen))),
+    ("unlisted although the rows fit", Way::Screen(|_, screen| unlisted(screen))),
+    ("stopped one visit early", Way::Request(|request| change_allowance(request, -1))),
+    ("stopped one visit late", Way::Request(|request| change_allowance(request, 1))),
+    ("the last clause forgotten", Way::Request(last_clause_forgotten)),
+    ("a bound of the last alternative one more", Way::Request(last_bound_looser)),
+    ("reasons: yes for no", Way::Reply(|request, reply| judged(request, reply, true, |_| true))),
+    ("reasons: no for yes", Way::Reply(|request, reply| judged(request, reply, true, |_| false))),
+    ("reasons: what comes after the reading is not looked at", Way::Reply(after_not_looked_at)),
+    ("times: yes for no", Way::Reply(|request, reply| judged(request, reply, false, |_| true))),
+    ("times: no for yes", Way::Reply(|request, reply| judged(request, reply, false, |_| false))),
+    ("a refusal's number one more", Way::Reply(|_, reply| next_refusal(reply))),
+    ("a lamp flipped", Way::Reply(|_, reply| change_lamps(reply, |lit, _, _, _| *lit ^= 1))),
+    ("the number of lamps one more", Way::Reply(|_, reply| change_lamps(reply, |_, total, _, _| *total += 1))),
+    ("the first lit lamp 64", Way::Reply(|_, reply| change_lamps(reply, |_, _, first, _| *first = 64))),
+    ("a clause's lamps one more", Way::Reply(|_, reply| change_lamps(reply, |_, _, _, counts| counts[31] += 1))),
+    (
+        "a bound one more",
+        Way::Reply(|_, reply| {
+            if let Reply::Bound(Ok(bound)) = reply {
+                *bound += 1
+            }
+        }),
+    ),
+    (
+        "at least taken as at most",
+        Way::Request(|request| {
+            if let Request::Slide { used, .. } = request {
+                *used = Use::AtMost
+            }
+        }),
+    ),
+    ("a plus sign taken", Way::Line(|line| line.iter().copied().filter(|byte| *byte != b'+').collect())),
+    ("a carriage return taken", Way::Line(|line| line.strip_suffix(b"\r").unwrap_or(line).to_vec())),
+    ("malformed answered as refused", Way::Texts(|_, text| vec![text.replace("malformed", "refused 1")])),
+    ("a reply missing", Way::Texts(|number, text| if number == 2_000 { vec![] } else { vec![text] })),
+    ("a space at a reply's end", Way::Texts(|number, text| vec![if number == 2_000 { text + " " } else { text }])),
+];
+
+/// The ways' names, in order; the first is way 1.
+pub fn names() -> Vec<String> {
+    WAYS.iter().map(|(name, _)| name.to_string()).collect()
+}
+
+/// The replies to a line, spoiled in a way where that applies.
+pub fn replies(way: usize, number: usize, line: &[u8]) -> Vec<String> {
+    match WAYS.get(way.wrapping_sub(1)).map(|(_, way)| way) {
+        Some(Way::Line(change)) => vec![serve::reply(&change(line))],
+        Some(Way::Texts(change)) => change(number, serve::reply(line)),
+        Some(change) => vec![spoiled_reply(change, line)],
+        None => vec![serve::reply(line)],
+    }
+}
+
+fn spoiled_reply(way: &Way, line: &[u8]) -> String {
+    let Some(mut request) = request(line) else {
+        return serve::reply(line);
+    };
+    if let Way::Request(change) = way {
+        change(&mut request);
+    }
+    let mut reply = answer(Some(&request));
+    if let (Request::Plan(asked), Reply::Screen(screen)) = (&request, &mut reply) {
+        if let Ok(problem) = accepted(asked) {
+            screen.list(&problem);
+            if let Way::Screen(change) = way {
+                change(&problem, screen);
+            }
+        }
+    }
+    if let Way::Reply(change) = way {
+        change(&request, &mut reply);
+    }
+    reply.to_string()
+}
+
+fn is_plan(screen: &Screen) -> bool {
+    matches!(screen.answer, Answer::Plan { .. }) && !screen.timetable.is_empty()
+}
+
+/// Changes an answer's visits, before and rows, where it has them.
+fn change_numbers(screen: &mut Screen, change: fn(&mut u64, &mut u64, &mut u64)) {
+    match &mut screen.answer {
+        Answer::Plan { visits, before } | Answer::Stopped { visits, before } => change(visits, before, &mut 0),
+        Answer::NoPlan { visits, before, rows } | Answer::Unlisted { visits, before, rows } => {
+            change(visits, before, rows)
+        }
+        Answer::Refused(_) => {}
+    }
+}
+
+/// A timetable that keeps the problem as well, and is not the latest.
+fn all_earlier(problem: &Problem, screen: &mut Screen) {
+    if is_plan(screen) {
+        screen.timetable[..problem.events].iter_mut().for_each(|time| *time -= 1);
+    }
+}
+
+fn change_first(bytes: &mut [u8], chosen: fn(u8) -> bool, change: fn(u8) -> u8) {
+    if let Some(byte) = bytes.iter_mut().find(|byte| chosen(**byte)) {
+        *byte = change(*byte);
+    }
+}
+
+/// Puts another element at the end, where the one there is as chosen.
+fn change_last<T: Copy>(elements: &mut [T], chosen: fn(T) -> bool, other: T) {
+    if let Some(last) = elements.last_mut() {
+        if chosen(*last) {
+            *last = other;
+        }
+    }
+}
+
+fn uncleared(reply: &mut Reply) {
+    if let Reply::Screen(Screen { answer: Answer::Refused(_), timetable, picks, reasons, .. }) = reply {
+        timetable.fill(7);
+        picks.fill(7);
+        reasons.fill(7);
+    }
+}
+
+/// Changes the listed rows that are as chosen.
+fn change_rows(screen: &mut Screen, chosen: fn(&[u8]) -> bool, change: fn(&mut [u8])) {
+    let listed = screen.rows.len() * ROW;
+    screen.reasons[..listed].chunks_mut(ROW).filter(|row| chosen(row)).for_each(change);
+}
+
+fn change_cycles(screen: &mut Screen, change: fn(&mut [u8])) {
+    change_rows(screen, |row| row[0] < 128, change);
+}
+
+fn change_marks(screen: &mut Screen, change: fn(&mut [u8])) {
+    change_rows(screen, |row| row[0] >= 128 && row[0] != GOES_ON, change);
+}
+
+fn broken(row: &mut [u8]) {
+    if row[2] != FILLING {
+        row.swap(0, 1);
+    }
+}
+
+fn cycle_not_below_0(problem: &Problem, screen: &mut Screen) {
+    for (bytes, row) in screen.reasons.chunks_mut(ROW).zip(&screen.rows) {
+        if let Row::Cycle(numbers) = row {
+            if let Some(walk) = closed_pair_not_below_0(problem, *numbers) {
+                bytes.copy_from_slice(&walk);
+            }
+        }
+    }
+}
+
+fn row_missing(screen: &mut Screen) {
+    let listed = screen.rows.len() * ROW;
+    if listed > 0 {
+        screen.reasons[..listed].rotate_left(ROW);
+        screen.reasons[listed - ROW..listed].fill(FILLING);
+    }
+}
+
+fn written_in_part(screen: &mut Screen) {
+    if let Answer::Unlisted { .. } = screen.answer {
+        change_first(&mut screen.reasons, |byte| byte == FILLING, |_| GOES_ON);
+    }
+}
+
+fn unlisted(screen: &mut Screen) {
+    if let Answer::NoPlan { visits, before, rows } = screen.answer {
+        screen.answer = Answer::Unlisted { visits, before, rows };
+        screen.reasons.fill(FILLING);
+    }
+}
+
+fn change_allowance(request: &mut Request, by: i32) {
+    if let Request::Plan(asked) = request {
+        if (1..1_000_000).contains(&asked.allowance) {
+            asked.allowance = asked.allowance.saturating_add_signed(by);
+        }
+    }
+}
+
+fn lent_of(request: &mut Request) -> Option<&mut Lent> {
+    match request {
+        Request::Plan(asked) => Some(&mut asked.lent),
+        Request::Reasons { lent, .. } | Request::Times { lent, .. } | Request::Lamps { lent } => Some(lent),
+        Request::Slide { .. } => None,
+    }
+}
+
+fn last_clause_forgotten(request: &mut Request) {
+    if let Some(lent) = lent_of(request) {
+        if lent.accepted().is_ok() && lent.counts.pop().is_some() {
+            lent.triples.truncate(3 * lent.counts.last().map_or(0, |count| *count as usize));
+        }
+    }
+}
+
+fn last_bound_looser(request: &mut Request) {
+    if let Some(bound) = lent_of(request).and_then(|lent| lent.triples.last_mut()) {
+        *bound = *bound + i32::from(*bound < 100_000);
+    }
+}
+
+/// Changes what a reader said: the reason-list reader or the timetable reader.
+fn judged(request: &Request, reply: &mut Reply, of_reasons: bool, change: fn(bool) -> bool) {
+    let asked = matches!(request, Request::Reasons { .. }) == of_reasons;
+    if let (true, Reply::Judged(Ok(yes))) = (asked, reply) {
+        *yes = change(*yes);
+    }
+}
+
+fn after_not_looked_at(request: &Request, reply: &mut Reply) {
+    if let (Request::Reasons { lent, list }, Reply::Judged(Ok(yes))) = (request, reply) {
+        *yes = lent.accepted().is_ok_and(|problem| whole_reading(&problem, list).is_some());
+    }
+}
+
+fn next_refusal(reply: &mut Reply) {
+    match reply {
+        Reply::Screen(Screen { answer: Answer::Refused(number), .. }) => *number += 1,
+        Reply::Judged(Err(number)) | Reply::Bound(Err(number)) => *number += 1,
+        _ => {}
+    }
+}
+
+fn change_lamps(reply: &mut Reply, change: fn(&mut u64, &mut usize, &mut usize, &mut [usize; 32])) {
+    if let Reply::Lamps(_, panel) = reply {
+        change(&mut panel.lit, &mut panel.total, &mut panel.first, &mut panel.counts);
+    }
+}

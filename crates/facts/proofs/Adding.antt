@@ -1,11 +1,12 @@
 -- One fact more: an arc stored before the facts of a buffer makes it the first of them. Assumes nothing.
 use Prim.Native.Nat.{ℕ, zero, suc, _+_, _-_, _≤_, _<_}
-use mathlib.Core.Path.{_≡_, ap, ap₂, _∙_}
+use mathlib.Core.Path.{_≡_, _∙_}
 use mathlib.Core.Bool.{Bool}
 use mathlib.Core.List.{List, _∷_, map}
 use native.Mathlib.Omega.{arith}
 use lib.ListN.{length, set, length-set, take, drop, length-drop}
-use lib.Seq.{take-all, drop-cons, getD-set-same, drop-set-lt}
+use lib.Seq.{take-all}
+use Rattle.lent.proofs.Writing.{put-before}
 use Rattle.problem.specs.Arcs.{Net, at, arc, Arc}
 use Rattle.facts.specs.Tests.{Within, Tests}
 
@@ -16,20 +17,12 @@ within-cons g L n j w a = record { each = each; few = w .few }
     each zero h = a
     each (suc i) h = w .each i (omega arith)
 
--- what is stored at a place comes first from there on
-pub put-before : (l : List ℕ) (i v : ℕ) → i < length l → drop i (set l i v) ≡ v ∷ drop (suc i) l
-put-before l i v h =
-    drop-cons (set l i v) i 0 (simp length-set h)
-    ∙ ap₂ {C = List ℕ} (λ x r. x ∷ r) (getD-set-same l i v 0 h) (drop-set-lt (suc i) l i v (omega arith))
-
 -- j stored before place a: k elements at the most from there on
 module _ (l : List ℕ) (a j k : ℕ) (p : 1 ≤ a) (h : a ≤ length l) (m : length l ≤ a - 1 + k) where
   stored-first : take k (drop (a - 1) (set l (a - 1) j)) ≡ j ∷ drop a l
   stored-first =
-      let e : suc (a - 1) ≡ a = omega arith in
       take-all k (drop (a - 1) (set l (a - 1) j)) (simp (length-drop, length-set) (omega arith))
-      ∙ put-before l (a - 1) j (omega arith)
-      ∙ ap (λ (i : ℕ). j ∷ drop i l) e
+      ∙ put-before l a j p h
 
   pub within-stored : (g : Net) (n : ℕ) → Within g (drop a l) n → Arc g n j → Within g (take k (drop (a - 1) (set l (a - 1) j))) n
   within-stored g n w b = rw stored-first (within-cons g (drop a l) n j w b)

@@ -8,7 +8,7 @@ use mathlib.Core.List.{List, [], _∷_, map}
 use native.Mathlib.Omega.{arith}
 use lib.Dec.{T, eqb}
 use borrow.Author.Tests.{eqb-true, eqb-false, eq-eqb}
-use lib.IntN.{ℤ, pos, negsuc, subℕ, _+ℤ_}
+use lib.IntN.{ℤ, pos, subℕ, _+ℤ_}
 use lib.Signed.{ltZ}
 use lib.ListN.{length, take, replicate, length-append, length-replicate, length-take}
 use lib.Seq.{ext-getD, getD-take}
@@ -19,7 +19,7 @@ use Rattle.meaning.specs.Search.{cycle}
 use Rattle.meaning.specs.Reasons.{named, given, walk, loops, numbers, filled, cycleOver, Writes}
 use Rattle.meaning.proofs.Booleans.{both, is-true, is-false}
 use Rattle.meaning.proofs.Settling.{Each, In, Meets, zero-at, rounds-length, least-under, sound-right, sound-whole}
-use Rattle.meaning.proofs.Deciding.{Minus, below, above, minus, day, day-satisfies, sound-decides}
+use Rattle.meaning.proofs.Deciding.{Minus, below, above, minus, sub-add, day, day-satisfies, sound-decides}
 use Rattle.meaning.proofs.Cycle.{cycle-none}
 use Rattle.problem.specs.Arcs.{Net, head, tail, bound, bias, at, arc}
 use Rattle.facts.specs.Tests.{farthest, Within, Tests}
@@ -95,25 +95,6 @@ module _ (g : Net) (L : List ℕ) (n : ℕ) (w : Within g L n) where
       same e = omega (arith, least-under n fs inside (λ v. at times v) met e, u .under (λ v. at (least n fs) v) (meets-holds g L (λ v. at (least n fs) v) (sound-right n fs (sound-whole n fs inside (λ v. at times v) met))) e)
 
 -- ---- a cycle of arcs
--- equal differences
-minus-same : {a b c d : ℕ} {x y : ℤ} → Minus a b x → Minus c d y → a + d ≡ c + b → x ≡ y
-minus-same (below h) (below k) e = ap negsuc (omega arith)
-minus-same (below h) (above k) e = absurd (omega arith)
-minus-same (above h) (below k) e = absurd (omega arith)
-minus-same (above h) (above k) e = ap pos (omega arith)
-
--- differences add
-sub-add : (a b c d : ℕ) → subℕ a b +ℤ subℕ c d ≡ subℕ (a + c) (b + d)
-sub-add a b c d = go (minus a b) (minus c d) (minus (a + c) (b + d))
-  where
-    go : {x y z : ℤ} → Minus a b x → Minus c d y → Minus (a + c) (b + d) z → x +ℤ y ≡ z
-    go (below h) (below k) (below l) = ap negsuc (omega arith)
-    go (below h) (below k) (above l) = absurd (omega arith)
-    go (below h) (above k) m = minus-same (minus (c - d) (suc (b - suc a))) m (omega arith)
-    go (above h) (below k) m = minus-same (minus (a - b) (suc (d - suc c))) m (omega arith)
-    go (above h) (above k) (below l) = absurd (omega arith)
-    go (above h) (above k) (above l) = ap pos (omega arith)
-
 sub-negative : (a b : ℕ) → a < b → T (ltZ (subℕ a b) (pos 0))
 sub-negative a b h = go (minus a b)
   where

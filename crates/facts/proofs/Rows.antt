@@ -11,7 +11,8 @@ use borrow.Author.Tests.{lt-ltb, ne-eqb}
 use lib.ListN.{length, set, replicate}
 use lib.Seq.{set-at, append-snoc}
 use Rattle.meaning.specs.Limits.{mostAlternatives, blankByte}
-use Rattle.meaning.specs.Reasons.{numbers, blank, filled, ring, kind}
+use Rattle.meaning.specs.Reasons.{numbers, filled, ring, kind}
+use Rattle.meaning.proofs.Listing.{blanks}
 use Rattle.problem.specs.Arcs.{at}
 use Rattle.facts.specs.Walk.{seg, padded}
 use Rattle.facts.proofs.Walking.{seg-length}
@@ -32,11 +33,6 @@ row-more l i w d h =
 -- a number of a row is no 255
 not-blank : (b : ℕ) → b < 2 * mostAlternatives → eqb b blankByte ≡ false
 not-blank b h = ne-eqb b blankByte (λ e. omega arith)
-
-blanks : (k : ℕ) → T (blank (replicate k blankByte))
-unfolding blank
-blanks zero = tt
-blanks (suc k) = blanks k
 
 module _ (W : ℕ) where
   pub row-kind : (l : List ℕ) (k : ℕ) → 0 < length l → ((i : ℕ) → i < length l → at l i < 2 * mostAlternatives) → kind W (l ++ replicate k blankByte) ≡ ring

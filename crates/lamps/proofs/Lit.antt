@@ -14,18 +14,11 @@ use Rattle.meaning.specs.Lamps.{forced, lampsOf, joined, bits, ones, lit}
 use Rattle.problem.specs.declared.Problem.{Problem}
 use Rattle.problem.specs.Arcs.{Net, at, arc, arcsFrom}
 use Rattle.problem.specs.Laid.{arcs, sizeOf, clauseOf, clausesFrom, clausesIn, Laid}
-use Rattle.problem.proofs.Laying.{arcs-length, clauses-length, clause-of, clause-last, clause-ends}
+use Rattle.problem.proofs.Laying.{arcs-length, arcs-split, clauses-length, clause-of, clause-last, clause-ends}
 use Rattle.lamps.specs.Masks.{lampsIn, mask}
 use Rattle.lamps.proofs.Sets.{bit-at, count-under, one-more, none-more}
 
 -- ---- the lamps of arcs in a row
-arcs-split : (g : Net) (j a b : ℕ) → arcsFrom g j (a + b) ≡ arcsFrom g j a ++ arcsFrom g (j + a) b
-unfolding arcsFrom
-arcs-split g j zero b = ap₂ (arcsFrom g) (let e : j ≡ j + 0 = omega arith in e) (let e : 0 + b ≡ b = omega arith in e)
-arcs-split g j (suc a) b =
-    ap (arcsFrom g j) (let e : suc a + b ≡ suc (a + b) = omega arith in e)
-    ∙ ap (λ (l : Clause). arc g j ∷ l) (arcs-split g (suc j) a b ∙ ap (λ (i : ℕ). arcsFrom g (suc j) a ++ arcsFrom g i b) (let e : suc j + a ≡ j + suc a = omega arith in e))
-
 module _ (fs : List Alternative) (g : Net) where
   lamps-length : (j k : ℕ) → length (lampsOf fs (arcsFrom g j k)) ≡ k
   unfolding lampsOf

@@ -1,11 +1,11 @@
 -- A loop that writes a list t over d, one store a turn: after n turns the first n elements are t's and the rest is d's. Assumes nothing.
-use mathlib.Core.Path.{_≡_, refl, sym, ap, _∙_}
+use mathlib.Core.Path.{_≡_, refl, sym, ap, ap₂, _∙_}
 use mathlib.Core.List.{List, [], _∷_, _++_, map, append-nil}
 use Prim.Native.Nat.{ℕ, zero, suc, _+_, _-_, _<_, _≤_}
 use native.Mathlib.Numerals.{add-one}
 use native.Mathlib.Omega.{arith}
-use lib.ListN.{getD, take, length, set, drop, replicate, drop-of-length-le}
-use lib.Seq.{paste, paste-suc, take-all}
+use lib.ListN.{getD, take, length, set, length-set, drop, replicate, drop-of-length-le}
+use lib.Seq.{paste, paste-suc, take-all, drop-cons, drop-set-lt, getD-set-same}
 
 module _ {A : Type 0} where
   -- written from a place on
@@ -33,3 +33,14 @@ pub take-map : {A B : Type 0} (f : A → B) (n : ℕ) (d : List A) → take n (m
 take-map f zero d = refl
 take-map f (suc n) [] = refl
 take-map {A} {B} f (suc n) (x ∷ d) = ap (λ (l : List B). f x ∷ l) (take-map f n d)
+
+-- what is stored at a place comes first from there on
+put-here : (l : List ℕ) (i v : ℕ) → i < length l → drop i (set l i v) ≡ v ∷ drop (suc i) l
+put-here l i v h =
+    drop-cons (set l i v) i 0 (simp length-set h)
+    ∙ ap₂ {C = List ℕ} (λ x r. x ∷ r) (getD-set-same l i v 0 h) (drop-set-lt (suc i) l i v (omega arith))
+
+-- what is stored before place `at` comes first from there on
+pub put-before : (l : List ℕ) (at v : ℕ) → 0 < at → at ≤ length l → drop (at - 1) (set l (at - 1) v) ≡ v ∷ drop at l
+put-before l at v p h =
+    put-here l (at - 1) v (omega arith) ∙ ap (λ (i : ℕ). v ∷ drop i l) (let e : suc (at - 1) ≡ at = omega arith in e)

@@ -28,6 +28,25 @@ minus a b = go (ltb a b) refl
     go true e = below (ltb→lt a b (subst T (sym e) tt))
     go false e = above (nltb→le a b (subst (λ (x : Bool). T (not x)) (sym e) tt))
 
+-- equal differences
+pub minus-same : {a b c d : ℕ} {x y : ℤ} → Minus a b x → Minus c d y → a + d ≡ c + b → x ≡ y
+minus-same (below h) (below k) e = ap negsuc (omega arith)
+minus-same (below h) (above k) e = absurd (omega arith)
+minus-same (above h) (below k) e = absurd (omega arith)
+minus-same (above h) (above k) e = ap pos (omega arith)
+
+-- differences add
+pub sub-add : (a b c d : ℕ) → subℕ a b +ℤ subℕ c d ≡ subℕ (a + c) (b + d)
+sub-add a b c d = go (minus a b) (minus c d) (minus (a + c) (b + d))
+  where
+    go : {x y z : ℤ} → Minus a b x → Minus c d y → Minus (a + c) (b + d) z → x +ℤ y ≡ z
+    go (below h) (below k) (below l) = ap negsuc (omega arith)
+    go (below h) (below k) (above l) = absurd (omega arith)
+    go (below h) (above k) m = minus-same (minus (c - d) (suc (b - suc a))) m (omega arith)
+    go (above h) (below k) m = minus-same (minus (a - b) (suc (d - suc c))) m (omega arith)
+    go (above h) (above k) (below l) = absurd (omega arith)
+    go (above h) (above k) (above l) = ap pos (omega arith)
+
 -- a − b ≤ c is: what c asks of a is at most b
 ask-of : (a b : ℕ) (c : ℤ) → T (leZ (subℕ a b) c) → ask a c ≤ b
 unfolding ask

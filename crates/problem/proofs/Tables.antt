@@ -9,18 +9,14 @@ use lib.Seq.{getD-append-add, set-append-left, take-all}
 use Rattle.meaning.specs.Limits.{mostAlternatives, oppositeFrom}
 use Rattle.meaning.specs.Problem.{Alternative, opposite}
 use Rattle.meaning.specs.Plain.{nowhere}
+use Rattle.meaning.proofs.Settling.{zero-at}
 use Rattle.lent.proofs.Writing.{write-more, drop-replicate}
 use Rattle.problem.specs.Arcs.{at}
 use Rattle.problem.specs.Loaded.{placed, table}
 
 -- ---- what stands at a place
-zeros-at : (r k : ℕ) → at (replicate r 0) k ≡ 0
-zeros-at zero k = refl
-zeros-at (suc r) zero = refl
-zeros-at (suc r) (suc k) = zeros-at r k
-
 filled-at : (l : List ℕ) (r k : ℕ) → at (l ++ replicate r 0) k ≡ at l k
-filled-at [] r k = zeros-at r k
+filled-at [] r k = zero-at r k
 filled-at (x ∷ l) r zero = refl
 filled-at (x ∷ l) r (suc k) = filled-at l r k
 

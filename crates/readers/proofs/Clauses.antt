@@ -4,20 +4,8 @@ use mathlib.Core.List.{[], _∷_}
 use Prim.Native.Nat.{ℕ, zero, suc, _+_, _-_, _<_, _≤_}
 use native.Mathlib.Omega.{arith}
 use Rattle.problem.specs.declared.Problem.{Problem}
-use Rattle.problem.specs.Arcs.{Net, at, arc, arcsFrom}
+use Rattle.problem.specs.Arcs.{at}
 use Rattle.problem.specs.Laid.{clauseOf, clausesFrom, Laid}
-
--- the alternatives of a clause from number j up to, and without, number e
-pub arcs-more : (g : Net) (j e : ℕ) → j < e → arcsFrom g j (e - j) ≡ arc g j ∷ arcsFrom g (j + 1) (e - (j + 1))
-unfolding arcsFrom
-arcs-more g j e h =
-    let q : e - j ≡ suc (e - (j + 1)) = omega arith in
-    let z : suc j ≡ j + 1 = omega arith in
-    ap (arcsFrom g j) q ∙ ap (λ (i : ℕ). arc g j ∷ arcsFrom g i (e - (j + 1))) z
-
-pub arcs-none : (g : Net) (j e : ℕ) → e ≤ j → arcsFrom g j (e - j) ≡ []
-unfolding arcsFrom
-arcs-none g j e h = let q : e - j ≡ 0 = omega arith in ap (arcsFrom g j) q
 
 module _ (p : Problem) where
   pub clauses-more : (k left : ℕ) → (left ≡ 0 → ⊥) → clausesFrom p k left ≡ clauseOf p k ∷ clausesFrom p (k + 1) (left - 1)

@@ -8,16 +8,17 @@ use Rattle.meaning.specs.Verdicts.{some, keeps}
 use Rattle.problem.specs.declared.Problem.{Problem}
 use Rattle.problem.specs.Arcs.{Net, arc, arcsFrom}
 use Rattle.problem.specs.Laid.{clauseOf, clausesFrom}
-use Rattle.readers.proofs.Clauses.{arcs-more, arcs-none, clauses-more, clauses-none}
+use Rattle.problem.proofs.Laying.{arcs-first, arcs-none}
+use Rattle.readers.proofs.Clauses.{clauses-more, clauses-none}
 
 module _ (t : Timetable) (g : Net) (j e : ℕ) where
   pub some-here : j < e → satisfied t (arc g j) ≡ true → some t (arcsFrom g j (e - j)) ≡ true
   unfolding some
-  some-here h q = rw (arcs-more g j e h, q) refl
+  some-here h q = rw (arcs-first g j e h, q) refl
 
   pub some-later : j < e → satisfied t (arc g j) ≡ false → some t (arcsFrom g j (e - j)) ≡ some t (arcsFrom g (j + 1) (e - (j + 1)))
   unfolding some
-  some-later h q = rw (arcs-more g j e h, q) refl
+  some-later h q = rw (arcs-first g j e h, q) refl
 
   pub some-none : e ≤ j → some t (arcsFrom g j (e - j)) ≡ false
   unfolding some

@@ -24,7 +24,7 @@ use Rattle.readers.specs.declared.Next.{Next}
 use Rattle.readers.specs.declared.Next.the-variants.{Row, No}
 use Rattle.readers.specs.Leaves.{Reached, Answers, deadRows}
 use Rattle.readers.proofs.Rows.{rows-count, blank-after}
-use Rattle.readers.proofs.Clauses.{arcs-more, arcs-none}
+use Rattle.problem.proofs.Laying.{arcs-first, arcs-none}
 
 abbrev Rows : Type 0
 Rows = List (List ℕ)
@@ -101,11 +101,11 @@ module _ (rows : Rows) (go : List Alternative → Rows → Option Rows) (g : Net
   module _ (h : j < e) where
     pub each-no : go (arc g j ∷ fs) (drop r rows) ≡ none → each ≡ none
     unfolding eachRead andRead
-    each-no q = rw (arcs-more g j e h, q) refl
+    each-no q = rw (arcs-first g j e h, q) refl
 
     pub each-row : (q b : ℕ) → go (arc g j ∷ fs) (drop r rows) ≡ some (drop q rows) → opposite (arc g j) ≡ arc g b → each ≡ eachRead rowBytes go (arcsFrom g (j + 1) (e - (j + 1))) (arc g b ∷ fs) (drop q rows)
     unfolding eachRead andRead
-    each-row q b w o = rw (arcs-more g j e h, w, o) refl
+    each-row q b w o = rw (arcs-first g j e h, w, o) refl
 
   pub each-end : e ≤ j → each ≡ some (drop r rows)
   unfolding eachRead
@@ -120,13 +120,13 @@ module _ (rows : Rows) (g : Net) (j e : ℕ) (fs : List Alternative) (r : ℕ) w
     pub cycles-no : cycleOver (arc g j ∷ fs) (getD rows r []) ≡ false → cycles ≡ none
     unfolding cycleRows
     cycles-no q =
-        ⊎-elim (λ (l : r < length rows). rw (arcs-more g j e h, row-there rows r l, q) refl)
-        (λ (l : length rows ≤ r). rw (arcs-more g j e h, drop-of-length-le rows l) refl)
+        ⊎-elim (λ (l : r < length rows). rw (arcs-first g j e h, row-there rows r l, q) refl)
+        (λ (l : length rows ≤ r). rw (arcs-first g j e h, drop-of-length-le rows l) refl)
         (lt-or-ge r (length rows))
 
     pub cycles-row : cycleOver (arc g j ∷ fs) (getD rows r []) ≡ true → cycles ≡ cycleRows rowBytes fs (arcsFrom g (j + 1) (e - (j + 1))) (drop (r + 1) rows)
     unfolding cycleRows
-    cycles-row q = rw (arcs-more g j e h, row-there rows r (cycle-there rows r (arc g j ∷ fs) q), q) refl
+    cycles-row q = rw (arcs-first g j e h, row-there rows r (cycle-there rows r (arc g j ∷ fs) q), q) refl
 
   pub cycles-end : e ≤ j → cycles ≡ some (drop r rows)
   unfolding cycleRows

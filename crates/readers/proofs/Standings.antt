@@ -1,22 +1,15 @@
 -- The facts of a standing in their buffer: what one more number in front of them makes of them. Assumes nothing.
-use mathlib.Core.Path.{_≡_, refl, sym, ap, _∙_, subst}
+use mathlib.Core.Path.{_≡_, sym, ap, subst}
 use mathlib.Core.List.{List, _∷_, map}
 use Prim.Native.Nat.{ℕ, zero, suc, _+_, _-_, _<_, _≤_}
 use native.Mathlib.Nat.{le-of-suc-le-suc}
 use native.Mathlib.Omega.{arith}
-use lib.ListN.{length, drop, set, length-set, length-drop}
-use lib.Seq.{drop-cons, drop-set-lt, getD-set-same}
+use lib.ListN.{length, drop, set, length-drop}
+use Rattle.lent.proofs.Writing.{put-before}
 use Rattle.problem.specs.declared.Problem.{Problem}
 use Rattle.problem.specs.Arcs.{at, arc, Arc}
 use Rattle.problem.specs.Laid.{arcs}
 use Rattle.readers.specs.Standing.{room, Known, factsFrom, Decided}
-
-pub in-front : (buffer : List ℕ) (from v : ℕ) → 0 < from → from ≤ length buffer → drop (from - 1) (set buffer (from - 1) v) ≡ v ∷ drop from buffer
-in-front buffer from v s h =
-    let e : suc (from - 1) ≡ from = omega arith in
-    let l : from - 1 < length (set buffer (from - 1) v) = rw length-set (omega arith) in
-    drop-cons (set buffer (from - 1) v) (from - 1) 0 l
-    ∙ rw (getD-set-same buffer (from - 1) v 0 (omega arith), drop-set-lt (suc (from - 1)) buffer (from - 1) v (omega arith), e) refl
 
 known-more : (p : Problem) (v : ℕ) (L : List ℕ) → Arc (arcs p) (p .n) v → Known p L → Known p (v ∷ L)
 known-more p v L a k = record { each = at-each }
@@ -38,14 +31,14 @@ module _ (p : Problem) (buffer : List ℕ) (size : length buffer ≡ room) where
   module _ (j from : ℕ) (d : Decided p j buffer from) (l : j < room) where
     -- one more decided, by the arc with number v
     pub facts-more : (v : ℕ) → factsFrom p (set buffer (from - 1) v) (from - 1) ≡ arc (arcs p) v ∷ factsFrom p buffer from
-    facts-more v = ap (λ (L : List ℕ). map (arc (arcs p)) L) (in-front buffer from v (omega (arith, d .few)) (omega (arith, d .within)))
+    facts-more v = ap (λ (L : List ℕ). map (arc (arcs p)) L) (put-before buffer from v (omega (arith, d .few)) (omega (arith, d .within)))
 
     pub decided-more : (v : ℕ) → Arc (arcs p) (p .n) v → Decided p (j + 1) (set buffer (from - 1) v) (from - 1)
     decided-more v a =
         record {
           within = omega (arith, d .within);
           few = omega (arith, d .few);
-          known = subst (λ (L : List ℕ). Known p L) (sym (in-front buffer from v (omega (arith, d .few)) (omega (arith, d .within)))) (known-more p v (drop from buffer) a (d .known));
+          known = subst (λ (L : List ℕ). Known p L) (sym (put-before buffer from v (omega (arith, d .few)) (omega (arith, d .within)))) (known-more p v (drop from buffer) a (d .known));
         }
 
 pub decided-later : (p : Problem) (buffer : List ℕ) (from i j : ℕ) → i ≤ j → Decided p i buffer from → Decided p j buffer from

@@ -9,12 +9,12 @@ use native.Mathlib.Numerals.{add-one}
 use native.Mathlib.Omega.{arith}
 use borrow.Author.Tests.{eqb-true, eq-eqb, ne-eqb, lt-ltb, le-ltb}
 use lib.Dec.{eqb, ltb}
-use lib.IntN.{ℤ, pos, negsuc, subℕ, _+ℤ_}
+use lib.IntN.{ℤ, pos, subℕ, _+ℤ_}
 use lib.Signed.{ltZ}
 use lib.ListN.{length, drop, drop-of-length-le}
 use lib.Seq.{drop-cons}
 use Rattle.meaning.proofs.Booleans.{never}
-use Rattle.meaning.proofs.Deciding.{Minus, below, above, minus}
+use Rattle.meaning.proofs.Deciding.{Minus, below, above, minus, sub-add}
 use Rattle.meaning.specs.Problem.{Alternative}
 use Rattle.meaning.specs.Reasons.{named, given, walk, loops}
 use Rattle.problem.specs.declared.Problem.{Problem}
@@ -51,27 +51,9 @@ found (j ∷ more) b e = by (eqb b j) refl e (λ h. found more b h)
 pub known-arc : (p : Problem) (L : List ℕ) (b : ℕ) → Known p L → isIn L b ≡ true → Arc (arcs p) (p .n) b
 known-arc p L b k e = let w = found L b e in subst (λ (j : ℕ). Arc (arcs p) (p .n) j) (w .is) (k .each (w .place) (w .below))
 
--- equal differences, and the sum of two
-same-difference : {a b c d : ℕ} {x y : ℤ} → Minus a b x → Minus c d y → a + d ≡ c + b → x ≡ y
-same-difference (below h) (below k) e = ap negsuc (omega arith)
-same-difference (below h) (above k) e = absurd (omega arith)
-same-difference (above h) (below k) e = absurd (omega arith)
-same-difference (above h) (above k) e = ap pos (omega arith)
-
-sum-differences : (a b c d : ℕ) → subℕ a b +ℤ subℕ c d ≡ subℕ (a + c) (b + d)
-sum-differences a b c d = go (minus a b) (minus c d) (minus (a + c) (b + d))
-  where
-    go : {x y z : ℤ} → Minus a b x → Minus c d y → Minus (a + c) (b + d) z → x +ℤ y ≡ z
-    go (below h) (below k) (below l) = ap negsuc (omega arith)
-    go (below h) (below k) (above l) = absurd (omega arith)
-    go (below h) (above k) m = same-difference (minus (c - d) (suc (b - suc a))) m (omega arith)
-    go (above h) (below k) m = same-difference (minus (a - b) (suc (d - suc c))) m (omega arith)
-    go (above h) (above k) (below l) = absurd (omega arith)
-    go (above h) (above k) (above l) = ap pos (omega arith)
-
 -- a sum of n bounds, with one more
 sum-more : (s b n : ℕ) → subℕ s (n * bias) +ℤ subℕ b bias ≡ subℕ (s + b) (suc n * bias)
-sum-more s b n = sum-differences s (n * bias) b bias ∙ ap (subℕ (s + b)) (sym (suc-mul n bias))
+sum-more s b n = sub-add s (n * bias) b bias ∙ ap (subℕ (s + b)) (sym (suc-mul n bias))
 
 -- a difference is below 0
 sum-below : (s n : ℕ) → ltZ (subℕ s n) (pos 0) ≡ ltb s n

@@ -2,8 +2,8 @@
 use mathlib.Core.Path.{_≡_, refl, sym, ap, _∙_}
 use mathlib.Core.Bool.{Bool, true, false, cond}
 use mathlib.Core.Option.{Option, some, none, Option·map}
-use mathlib.Core.List.{List, [], _∷_, _++_, map}
-use Prim.Native.Nat.{ℕ, zero, suc, _+_, _-_, _<_, _≤_}
+use mathlib.Core.List.{List, [], _∷_, _++_, map, map-append}
+use Prim.Native.Nat.{ℕ, suc, _+_, _-_, _<_, _≤_}
 use native.Mathlib.Omega.{arith}
 use Rattle.meaning.specs.Problem.{Alternative, Clause}
 use Rattle.meaning.specs.Decision.{sound}
@@ -12,29 +12,15 @@ use Rattle.meaning.proofs.First.{unsound-first}
 use Rattle.problem.specs.declared.Problem.{Problem}
 use Rattle.problem.specs.Arcs.{Net, arc, arcsFrom}
 use Rattle.problem.specs.Laid.{clauseOf, clausesFrom}
+use Rattle.problem.proofs.Laying.{arcs-first, arcs-none, arcs-split}
 
--- the arcs from j up to `end`, by the first of them
-pub arcs-first : (g : Net) (j end : ℕ) → j < end → arcsFrom g j (end - j) ≡ arc g j ∷ arcsFrom g (j + 1) (end - (j + 1))
-unfolding arcsFrom
-arcs-first g j end h =
-    ap (arcsFrom g j) (let e : end - j ≡ suc (end - (j + 1)) = omega arith in e)
-    ∙ ap (λ (i : ℕ). arc g j ∷ arcsFrom g i (end - (j + 1))) (let e : suc j ≡ j + 1 = omega arith in e)
-
-pub arcs-none : (g : Net) (j end : ℕ) → end ≤ j → arcsFrom g j (end - j) ≡ []
-unfolding arcsFrom
-arcs-none g j end h = ap (arcsFrom g j) (let e : end - j ≡ 0 = omega arith in e)
-
--- by the last of them
-arcs-snoc : {A : Type 0} (f : Alternative → A) (g : Net) (n i : ℕ) → map f (arcsFrom g i (suc n)) ≡ map f (arcsFrom g i n) ++ f (arc g (i + n)) ∷ []
-unfolding arcsFrom
-arcs-snoc f g zero i = ap (λ (d : ℕ). f (arc g d) ∷ []) (let e : i ≡ i + 0 = omega arith in e)
-arcs-snoc f g (suc n) i =
-    ap (λ r. f (arc g i) ∷ r) (arcs-snoc f g n (suc i) ∙ ap (λ (d : ℕ). map f (arcsFrom g (suc i) n) ++ f (arc g d) ∷ []) (let e : suc i + n ≡ i + suc n = omega arith in e))
-
+-- the arcs up to j, by the last of them
 pub arcs-last : {A : Type 0} (f : Alternative → A) (g : Net) (i j : ℕ) → i ≤ j → map f (arcsFrom g i (j + 1 - i)) ≡ map f (arcsFrom g i (j - i)) ++ f (arc g j) ∷ []
+unfolding arcsFrom
 arcs-last f g i j h =
-    ap (λ (n : ℕ). map f (arcsFrom g i n)) (let e : j + 1 - i ≡ suc (j - i) = omega arith in e)
-    ∙ arcs-snoc f g (j - i) i
+    ap (λ (n : ℕ). map f (arcsFrom g i n)) (let e : j + 1 - i ≡ j - i + 1 = omega arith in e)
+    ∙ ap (map f) (arcs-split g i (j - i) 1)
+    ∙ map-append f (arcsFrom g i (j - i)) (arcsFrom g (i + (j - i)) 1)
     ∙ ap (λ (d : ℕ). map f (arcsFrom g i (j - i)) ++ f (arc g d) ∷ []) (let e : i + (j - i) ≡ j = omega arith in e)
 
 module _ (fs : List Alternative) (g : Net) (j end : ℕ) where

@@ -4,7 +4,7 @@ use native.Mathlib.Omega.{arith}
 use lib.ListN.{length}
 use borrow.Author.Needs.{needs}
 use Rattle.facts.specs.Tests.{places}
-use Rattle.held.proofs.Arcs.{put-down}
+use Rattle.lent.proofs.Writing.{put-before}
 use Rattle.held.proofs.put.Statement.{statement}
 use Rattle.held.proofs.put.Tie as tie
 
@@ -18,7 +18,7 @@ returns : tie.Need-returns
 returns c =
     let s = c .before .before in
     let l : length (s .args .f .buffer) ≡ places = search needs in
-    (put-down (s .args .f .buffer) (s .args .f .at) (s .args .j) (s .pre .0) (omega (arith, s .pre .1)), omega arith)
+    (put-before (s .args .f .buffer) (s .args .f .at) (s .args .j) (s .pre .0) (omega (arith, s .pre .1)), omega arith)
 
 pub put-spec : {M : Type 1} → statement M
 put-spec = tie.close (tie.spec sub-at array-write-buffer returns)

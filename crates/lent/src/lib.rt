@@ -3,8 +3,7 @@ ghost use mathlib.Core.Path.{_≡_};
 ghost use mathlib.Core.List.{_++_, map};
 ghost use Prim.Native.Nat.{ℕ, _+_, _<_, _≤_};
 ghost use lib.ListN.{length, replicate, getD, take, drop};
-ghost use lib.IntN.{ℤ, pos, negℤ, natAbs, _+ℤ_, _-ℤ_};
-ghost use lib.Signed.{leZ};
+ghost use lib.IntN.{ℤ, pos, negℤ, natAbs, _+ℤ_};
 ghost use Rattle.lent.specs.Sizes.{width, mostNegated, signedEnd};
 
 // How many numbers `put_negated` takes.
@@ -71,11 +70,4 @@ pub fn lifted(c: i32, by: u32) -> u32
     ensures { λ r. ⌜ r ≡ natAbs (c +ℤ pos by) ⌝ }
 {
     (c + (by as i32)) as u32
-}
-
-// Whether a − b is at most c, at any 32-bit numbers.
-pub fn within(a: i32, b: i32, c: i32) -> bool
-    ensures { λ r. ⌜ r ≡ leZ (a -ℤ b) c ⌝ }
-{
-    (a as i64) - (b as i64) <= (c as i64)
 }

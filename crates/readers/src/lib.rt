@@ -37,9 +37,6 @@ const ARCS_END: u8 = 128;
 // How many numbers the buffer of a standing's facts holds.
 const ROOM: usize = ALTERNATIVES + 1;
 
-// In which a difference of any two times is exact.
-type Exact = i64;
-
 // The row after a reading, or a no.
 enum Next {
     Row(usize),
@@ -291,12 +288,16 @@ pub fn is_reading(p: Problem, list: &[u8]) -> bool
     }
 }
 
-// Whether tx − ty is at most the bound that b stands for, at any two 32-bit numbers.
+// Whether tx − ty is at most the bound that b stands for. Any two times are taken, so the difference has 64 bits.
 fn at_most(tx: i32, ty: i32, b: u32) -> bool
     requires { ⌜ b < 2 * bias ⌝ }
     ensures { λ r. ⌜ r ≡ leZ (tx -ℤ ty) (subℕ b bias) ⌝ }
 {
-    (tx as Exact) - (ty as Exact) <= (b as Exact) - (BIAS as Exact)
+    let c = (b as i32) - (BIAS as i32);
+    let x = tx as i64;
+    let y = ty as i64;
+    let most = c as i64;
+    x - y <= most
 }
 
 // Whether the timetable satisfies alternative j.

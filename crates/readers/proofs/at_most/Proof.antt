@@ -1,57 +1,56 @@
--- `readers::at_most` meets its contract: in 64 bits both differences are exact. Assumes nothing.
-use mathlib.Core.Path.{refl}
-use Prim.Native.Nat.{ℕ, _*_, _<_}
+-- `readers::at_most` meets its contract: the bound comes back in 32 bits, and the difference of two times fits in 64. Assumes nothing.
+use mathlib.Core.Path.{_≡_, refl, _∙_}
+use Prim.Native.Nat.{ℕ, _*_, _<_, _≤_, _^_}
 use native.Mathlib.Omega.{arith}
 use borrow.Author.Needs.{needs}
 use lib.IntN.{ℤ, pos, _-ℤ_}
+use lib.Signed.{mag}
 use mir.Syntax.{w32, w64}
 use mir.Val.{SFits, ofZ, toZ}
 use mir.Facts.{toZ-pos, toZ-ofZ, sfits-widen}
-use Rattle.lent.proofs.Signed.{sfits-difference, through}
+use Rattle.lent.proofs.Signed.{mag-difference, through}
 use Rattle.problem.specs.Arcs.{bias}
 use Rattle.readers.proofs.at_most.Statement.{statement}
 use Rattle.readers.proofs.at_most.Tie as tie
 
--- a bound's number less the bias
-bound-fits : (b : ℕ) → b < 2 * bias → SFits w64 (pos b -ℤ pos bias)
-bound-fits b h = sfits-difference {x = pos b} {y = pos bias} (record { sfits = omega arith }) (record { sfits = omega arith })
+-- the bound fits in 32 bits, and it comes back
+bound-fits : (b : ℕ) → b < 2 * bias → SFits w32 (toZ w32 b -ℤ pos bias)
+bound-fits b h = rw (toZ-pos w32 {n = b} (omega arith)) (record { sfits = omega (arith, mag-difference (pos b) (pos bias)) })
 
--- a time fits, and so does the difference of two
-time-fits : {x : ℤ} → SFits w32 x → SFits w64 (toZ w32 (ofZ w32 x))
-time-fits h = rw (toZ-ofZ h) (sfits-widen tt h)
+bound-back : (b : ℕ) → b < 2 * bias → toZ w64 (ofZ w64 (toZ w32 (ofZ w32 (toZ w32 b -ℤ pos bias)))) ≡ pos b -ℤ pos bias
+bound-back b h = through (bound-fits b h) ∙ rw (toZ-pos w32 {n = b} (omega arith)) refl
 
-times-fit : {x y : ℤ} → SFits w32 x → SFits w32 y → SFits w64 (toZ w64 (ofZ w64 (toZ w32 (ofZ w32 x))) -ℤ toZ w64 (ofZ w64 (toZ w32 (ofZ w32 y))))
-times-fit h k = rw (through h, through k) (sfits-difference h k)
+-- a number of 32 bits fits in 64, and two of them are at most 2 to the 32nd apart
+widened : {z : ℤ} → SFits w32 z → SFits w64 (toZ w32 (ofZ w32 z))
+widened h = rw (toZ-ofZ h) (sfits-widen tt h)
 
-cast-result : tie.Need-cast-result
-cast-result c = search (needs, time-fits (c .fits .tx))
+apart : {x y : ℤ} → SFits w32 x → SFits w32 y → mag (toZ w64 (ofZ w64 (toZ w32 (ofZ w32 x))) -ℤ toZ w64 (ofZ w64 (toZ w32 (ofZ w32 y)))) ≤ 2 ^ 32
+apart {x} {y} h k = rw (through h, through k) (omega (arith, mag-difference x y))
 
-cast-result-2 : tie.Need-cast-result-2
-cast-result-2 c = search (needs, time-fits (c .fits .ty))
+cast-c : tie.Need-cast-c
+cast-c c = search needs
+
+cast-c-2 : tie.Need-cast-c-2
+cast-c-2 c = search needs
+
+sub-c : tie.Need-sub-c
+sub-c c = bound-fits _ (c .pre)
+
+cast-x : tie.Need-cast-x
+cast-x c = widened (c .fits .tx)
+
+cast-y : tie.Need-cast-y
+cast-y c = widened (c .fits .ty)
+
+cast-most : tie.Need-cast-most
+cast-most c = widened (bound-fits _ (c .pre))
 
 sub-result : tie.Need-sub-result
-sub-result c = times-fit (c .fits .tx) (c .fits .ty)
-
-cast-result-3 : tie.Need-cast-result-3
-cast-result-3 c = search needs
-
-cast-result-4 : tie.Need-cast-result-4
-cast-result-4 c = search needs
-
-sub-result-2 : tie.Need-sub-result-2
-sub-result-2 c = rw (toZ-pos w64 {n = c .args .b} (omega arith)) (bound-fits _ (c .pre))
+sub-result c = record { sfits = omega (arith, apart (c .fits .tx) (c .fits .ty)) }
 
 returns : tie.Need-returns
-returns c = rw (through (c .fits .tx), through (c .fits .ty), toZ-ofZ (sfits-difference (c .fits .tx) (c .fits .ty)), toZ-pos w64 {n = c .args .b} (omega arith), toZ-ofZ (bound-fits (c .args .b) (c .pre))) refl
+returns c = rw (toZ-ofZ (sub-result c), through (c .fits .tx), through (c .fits .ty), bound-back _ (c .pre)) refl
 
 pub at-most-spec : {M : Type 1} → statement M
 at-most-spec =
-    tie.close
-    (tie.spec
-    cast-result
-    cast-result-2
-    sub-result
-    cast-result-3
-    cast-result-4
-    sub-result-2
-    returns)
+    tie.close (tie.spec cast-c cast-c-2 sub-c cast-x cast-y cast-most sub-result returns)

@@ -1,7 +1,8 @@
 -- Laws of the definitions of `Written`: a byte more, no room, and one text after another. Assumes nothing.
-use Prim.Native.Nat.{ℕ, zero, suc, _+_, _≤_, _<_}
+use Prim.Native.Nat.{ℕ, zero, suc, _+_, _≤_, _<_, zero-le, suc-le-suc}
 use mathlib.Core.Path.{_≡_, refl, sym, ap, _∙_}
 use mathlib.Core.List.{List, [], _∷_, _++_, map}
+use native.Mathlib.Nat.{le-of-suc-le-suc}
 use native.Mathlib.Omega.{arith}
 use native.Mathlib.Numerals.{add-one}
 use lib.ListN.{length, set, drop, getD, drop-of-length-le}
@@ -62,6 +63,14 @@ module _ (s : List ℕ) (at : ℕ) (t : List ℕ) (i : ℕ) (h : length t ≤ i)
 
   pub to-off : writtenTo s at (drop i t) ≡ at
   to-off = rw (drop-of-length-le t h) (to-none s at)
+
+-- nothing is written past the end
+pub to-within : (s : List ℕ) (at : ℕ) (t : List ℕ) → at ≤ length s → writtenTo s at t ≤ length s
+unfolding writtenTo
+to-within [] at t h = h
+to-within (x ∷ s) (suc at) t h = suc-le-suc (to-within s at t (le-of-suc-le-suc h))
+to-within (x ∷ s) zero [] h = h
+to-within (x ∷ s) zero (b ∷ t) h = suc-le-suc (to-within s zero t zero-le)
 
 -- one text after another is both as one
 pub written-then : (s : List ℕ) (at : ℕ) (t u : List ℕ) → written (written s at t) (writtenTo s at t) u ≡ written s at (t ++ u)

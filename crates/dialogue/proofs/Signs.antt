@@ -19,9 +19,6 @@ pub zero-minus : (s : ℕ) → pos 0 -ℤ pos s ≡ negℤ (pos s)
 zero-minus s = +ℤ-idl (negℤ (pos s))
 
 -- a 32-bit number below 0, turned round at 64 bits
-pub wider : (z : ℤ) → SFits w32 z → SFits w64 z
-wider z f = record { sfits = omega (arith, f .sfits) }
-
 pub turned : (z : ℤ) → ltZ z (pos 0) ≡ true → pos 0 -ℤ z ≡ pos (natAbs z)
 turned (pos n) e = absurd (omega (arith, ltb-true n 0 e))
 turned (negsuc n) e = +ℤ-idl (pos (suc n))

@@ -20,16 +20,19 @@ use Rattle.facts.proofs.Walking.{walk-cycle, seg-length}
 pub within-more : (g : Net) (L : List ℕ) (n m : ℕ) → n ≤ m → Within g L n → Within g L m
 within-more g L n m h w =
     record {
-      each = λ i l.
-          let a = w .each i l in
-          record { in-xs = a .in-xs; in-ys = a .in-ys; in-bs = a .in-bs; in-head = omega (arith, a .in-head); in-tail = omega (arith, a .in-tail); small = a .small };
+      known =
+          record {
+            each = λ i l.
+                let a = w .known .each i l in
+                record { in-xs = a .in-xs; in-ys = a .in-ys; in-bs = a .in-bs; in-head = omega (arith, a .in-head); in-tail = omega (arith, a .in-tail); small = a .small };
+          };
       few = w .few;
     }
 
 module _ (g : Net) (L : List ℕ) (n : ℕ) (b : Within g L n) (p : 1 ≤ n) (w : ℕ) (q : n ≤ w) (z : List ℕ) (len : length z ≡ w) where
   -- an event of a fact lies below n
   fact-in : (j : ℕ) → IsFact L j → (head g j < n) × (tail g j < n)
-  fact-in j f = subst (λ (j : ℕ). (head g j < n) × (tail g j < n)) (f .same) (b .each (f .place) (f .below) .in-head, b .each (f .place) (f .below) .in-tail)
+  fact-in j f = subst (λ (j : ℕ). (head g j < n) × (tail g j < n)) (f .same) (b .known .each (f .place) (f .below) .in-head, b .known .each (f .place) (f .below) .in-tail)
 
   walked-below : (nodes arcs : List ℕ) → Walked g L z nodes arcs 0 n → (k : ℕ) → k ≤ n → at nodes k < n
   walked-below nodes arcs s k h = go (decLt k n)

@@ -12,14 +12,16 @@ use lib.IntN.{ℤ, pos, subℕ, _+ℤ_}
 use lib.Signed.{ltZ}
 use lib.ListN.{length, take, replicate, length-append, length-replicate, length-take}
 use lib.Seq.{ext-getD, getD-take}
+use mir.Facts.{yes-and}
+use Rattle.laws.proofs.Differences.{Minus, below, above, minus, sub-add}
+use Rattle.laws.proofs.Tests.{is-true, is-false}
 use Rattle.meaning.specs.Limits.{mostEvents, mostAlternatives, rowBytes, blankByte}
 use Rattle.meaning.specs.Problem.{Alternative, Sound}
 use Rattle.meaning.specs.Decision.{ask, least, sound}
 use Rattle.meaning.specs.Search.{cycle}
 use Rattle.meaning.specs.Reasons.{named, given, walk, loops, numbers, filled, cycleOver, Writes}
-use Rattle.meaning.proofs.Booleans.{both, is-true, is-false}
 use Rattle.meaning.proofs.Settling.{Each, In, Meets, zero-at, rounds-length, least-under, sound-right, sound-whole}
-use Rattle.meaning.proofs.Deciding.{Minus, below, above, minus, sub-add, day, day-satisfies, sound-decides}
+use Rattle.meaning.proofs.Deciding.{day, day-satisfies, sound-decides}
 use Rattle.meaning.proofs.Cycle.{cycle-none}
 use Rattle.problem.specs.Arcs.{Net, head, tail, bound, bias, at, arc}
 use Rattle.facts.specs.Tests.{farthest, Within, Tests}
@@ -63,7 +65,7 @@ pub meets-holds : (g : Net) (L : List ℕ) (s : ℕ → ℕ) → Each (Meets s) 
 meets-holds g L s m = record { each = λ i l. meets-kept g s (at L i) (fact-each g (Meets s) L m i l) }
 
 pub within-in : (g : Net) (L : List ℕ) (n : ℕ) → Within g L n → Each (In n) (map (arc g) L)
-within-in g L n w = each-fact g (In n) L (λ i l. (w .each i l .in-head, w .each i l .in-tail))
+within-in g L n w = each-fact g (In n) L (λ i l. (w .known .each i l .in-head, w .known .each i l .in-tail))
 
 module _ (g : Net) (L : List ℕ) (n : ℕ) (w : Within g L n) where
   -- times that keep the facts make them sound
@@ -122,10 +124,10 @@ module _ (g : Net) (L : List ℕ) where
   path-walk : (start : ℕ) (bs : List ℕ) (here p q : ℕ) → Path g L here bs start → p + sum g bs < q + length bs * bias → T (walk (map (arc g) L) start here (subℕ p q) bs)
   unfolding walk
   path-walk start [] here p q e h =
-      both (eqb here start) (ltZ (subℕ p q) (pos 0)) (subst T (sym (eq-eqb here start e)) tt) (sub-negative p q (omega arith))
+      yes-and (eqb here start) (ltZ (subℕ p q) (pos 0)) (subst T (sym (eq-eqb here start e)) tt) (sub-negative p q (omega arith))
   path-walk start (b ∷ bs) here p q (f, e, r) h =
       given-fact b f _
-      (both (eqb (tail g b) here) (walk (map (arc g) L) start (head g b) (subℕ p q +ℤ subℕ (bound g b) bias) bs) (subst T (sym (eq-eqb (tail g b) here e)) tt)
+      (yes-and (eqb (tail g b) here) (walk (map (arc g) L) start (head g b) (subℕ p q +ℤ subℕ (bound g b) bias) bs) (subst T (sym (eq-eqb (tail g b) here e)) tt)
       (subst (λ (z : ℤ). T (walk (map (arc g) L) start (head g b) z bs)) (sym (sub-add p q (bound g b) bias))
       (path-walk start bs (head g b) (p + bound g b) (q + bias) r (omega arith))))
 
@@ -149,7 +151,7 @@ module _ (g : Net) (L : List ℕ) (n : ℕ) (w : Within g L n) where
   cycle-numbers : (l : List ℕ) → Cycle g L l → (i : ℕ) → i < length l → at l i < 2 * mostAlternatives
   cycle-numbers l c i h =
       let f = path-facts g L (c .node) (c .node) l (c .path) i h in
-      omega (arith, f .same, w .each (f .place) (f .below) .in-xs, w .few)
+      omega (arith, f .same, w .known .each (f .place) (f .below) .in-xs, w .few)
 
   some-numbers : (l : List ℕ) → Cycle g L l → 0 < length l
   some-numbers [] c = absurd (omega (arith, c .negative))
@@ -161,7 +163,7 @@ module _ (g : Net) (L : List ℕ) (n : ℕ) (w : Within g L n) where
       let k = rowBytes - length l in (
         omega (arith, length-append l (replicate k blankByte), length-replicate k blankByte),
         row-kind rowBytes l k (some-numbers l c) (cycle-numbers l c),
-        both (filled (padded rowBytes l)) (loops (map (arc g) L) (numbers (padded rowBytes l))) (row-filled l k (cycle-numbers l c))
+        yes-and (filled (padded rowBytes l)) (loops (map (arc g) L) (numbers (padded rowBytes l))) (row-filled l k (cycle-numbers l c))
             (subst (λ (r : List ℕ). T (loops (map (arc g) L) r)) (sym (row-numbers l k (cycle-numbers l c))) (cycle-loops g L l c)),
       )
 

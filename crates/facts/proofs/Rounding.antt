@@ -58,7 +58,7 @@ upto-length g L s (suc i) = relax-length g s (at L i) (upto g L s i) ∙ upto-le
 
 module _ (g : Net) (L : List ℕ) (n : ℕ) (w : Within g L n) (s : List ℕ) (long : n ≤ length s) where
   in-row : (i : ℕ) → i < length L → head g (at L i) < length (upto g L s i)
-  in-row i h = omega (arith, w .each i h .in-head, upto-length g L s i)
+  in-row i h = omega (arith, w .known .each i h .in-head, upto-length g L s i)
 
   -- what fact i did in the round
   cases : (i : ℕ) → i < length L → (v : ℕ) → (at (relax g s (at L i) (upto g L s i)) v ≡ at (upto g L s i) v) ⊎ Lifts g s (at L i) (upto g L s i) v

@@ -77,7 +77,7 @@ module _ (g : Net) (L z : List ℕ) (w n : ℕ) (fits : n ≤ w) (len : length z
         long = simp length-set (t .long);
         wide = simp length-set (t .wide);
         here = getD-set-same nodes m (tail g (at L i)) 0 (omega (arith, t .long, t .most));
-        small = b .each i (r .below) .in-tail;
+        small = b .known .each i (r .below) .in-tail;
         walked = record { step = λ l c d. steps l d (decLt m l) c };
         rise = λ l f. before l f;
       }

@@ -3,14 +3,14 @@
 use mathlib.Core.Path.{_≡_}
 use mathlib.Core.Bool.{Bool, true, false}
 use mathlib.Core.List.{List}
-use Prim.Native.Nat.{ℕ, _+_, _*_, _-_, _≤_, _<_}
+use Prim.Native.Nat.{ℕ, _+_, _*_, _-_, _≤_}
 use lib.ListN.{length, take, replicate}
 use Rattle.meaning.specs.Limits.{mostEvents, mostAlternatives, rowBytes, blankByte}
 use Rattle.meaning.specs.Problem.{Alternative}
 use Rattle.meaning.specs.Decision.{sound, least}
 use Rattle.meaning.specs.Search.{cycle}
 use Rattle.meaning.specs.Reasons.{Writes}
-use Rattle.problem.specs.Arcs.{Net, bias, at, Arc}
+use Rattle.problem.specs.Arcs.{Net, bias, at, Known}
 
 -- no test from the extra source gives a time further before closing: as many arcs as lead to all the other events, each with the least bound of an opposite
 abbrev pub farthest : ℕ
@@ -22,7 +22,7 @@ places = mostAlternatives + 1
 
 -- the facts L are arcs of the net, over n events; and the net has no more arcs than there are alternatives and opposites
 pub record Within (g : Net) (L : List ℕ) (n : ℕ) : Type 0 where
-  pub each : (i : ℕ) → i < length L → Arc g n (at L i)
+  pub known : Known g n L
   pub few : length (g .xs) ≤ 2 * mostAlternatives
 
 -- the answer of a test of the facts fs over n events: whether they are sound; if so the latest timetable and no row, if not a cycle row over them

@@ -2,21 +2,17 @@
 use mathlib.Core.Path.{_≡_, refl, sym, _∙_}
 use mathlib.Core.Logic.{_↔_}
 use mathlib.Core.Bool.{Bool, true, false, cond}
-use mathlib.Core.List.{List, _∷_}
+use mathlib.Core.List.{_∷_}
 use Prim.Native.Nat.{ℕ, _/_, _%_, _^_, _<_}
 use native.Mathlib.Omega.{arith}
 use lib.Dec.{T}
-use lib.IntN.{ℤ}
-use Rattle.meaning.specs.declared.Panel.{Panel}
 use Rattle.meaning.specs.Problem.{Sound}
 use Rattle.meaning.specs.Decision.{sound}
-use Rattle.meaning.specs.Lamps.{forced, lit, panelOf, panel}
+use Rattle.meaning.specs.Lamps.{forced, lit, panelOf}
 use Rattle.meaning.proofs.Deciding.{sound-decides}
-use Rattle.meaning.proofs.Settled.{panels-same}
 use Rattle.problem.specs.declared.Problem.{Problem}
 use Rattle.problem.specs.Arcs.{at, arc}
 use Rattle.problem.specs.Laid.{arcs, clausesIn, Laid}
-use Rattle.problem.specs.Reads.{given}
 use Rattle.lamps.proofs.Lit.{lamp-at}
 
 one-true : (b : Bool) → T b ↔ (_≡_ {A = ℕ} (cond b 1 0) 1)
@@ -33,7 +29,3 @@ lamp-lit p laid j l =
       λ e. sound-decides .right fs (one-true (sound fs) .1 (sym bit ∙ e)),
       λ h. bit ∙ one-true (sound fs) .0 (sound-decides .whole fs (h .0) (h .1)),
     )
-
--- "two results allowed for one input are the same"
-pub answers-same : (n : ℕ) (triples : List ℤ) (counts : List ℕ) (a b : Panel) → a ≡ panel (given n triples counts) → b ≡ panel (given n triples counts) → a ≡ b
-answers-same n triples counts = panels-same (given n triples counts)

@@ -7,8 +7,7 @@ use lib.Signed.{mag}
 use mir.Syntax.{Width, w32, w64}
 use mir.Val.{SFits, hbits, ofZ, toZ}
 use mir.Facts.{toZ-pos, toZ-ofZ, sfits-widen}
-use mathlib.Core.Logic.{⊎-elim}
-use Rattle.lent.proofs.Difference.{lt-or-ge, difference-below, difference-from}
+use Rattle.laws.proofs.Differences.{Minus, below, above, minus}
 
 -- an element of a slice of i32, back from its bits
 pub element : (z : ℤ) → mag z < 2 ^ 31 → toZ w32 (ofZ w32 z) ≡ z
@@ -28,10 +27,11 @@ mag-negated (pos (suc n)) = omega arith
 mag-negated (negsuc n) = omega arith
 
 mag-apart : (a b : ℕ) → mag (subℕ a b) ≤ a + b
-mag-apart a b =
-    ⊎-elim (λ (h : a < b). rw (difference-below a b h) (omega arith))
-    (λ (h : b ≤ a). rw (difference-from a b h) (omega arith))
-    (lt-or-ge a b)
+mag-apart a b = go (minus a b)
+  where
+    go : {z : ℤ} → Minus a b z → mag z ≤ a + b
+    go (below h) = omega arith
+    go (above h) = omega arith
 
 mag-sum : (y z : ℤ) → mag (y +ℤ z) ≤ mag y + mag z + 1
 mag-sum (pos m) (pos n) = omega arith

@@ -4,7 +4,7 @@ use mathlib.Core.List.{List, [], _∷_, _++_, map, append-nil}
 use Prim.Native.Nat.{ℕ, zero, suc, _+_, _-_, _<_, _≤_}
 use native.Mathlib.Numerals.{add-one}
 use native.Mathlib.Omega.{arith}
-use lib.ListN.{getD, take, length, set, length-set, drop, replicate, drop-of-length-le}
+use lib.ListN.{getD, take, length, set, length-set, drop, drop-of-length-le}
 use lib.Seq.{paste, paste-suc, take-all, drop-cons, drop-set-lt, getD-set-same}
 
 module _ {A : Type 0} where
@@ -23,11 +23,6 @@ module _ {A : Type 0} where
   -- written to the end
   pub written : (n : ℕ) (s t d : List A) → s ≡ take n t ++ drop n d → length t ≤ n → length d ≤ n → s ≡ t
   written n s t d e l m = e ∙ rw (take-all n t l, drop-of-length-le d m) (append-nil t)
-
-  pub drop-replicate : (n k : ℕ) (v : A) → drop n (replicate k v) ≡ replicate (k - n) v
-  drop-replicate zero k v = let q : k ≡ k - 0 = omega arith in ap (λ (j : ℕ). replicate j v) q
-  drop-replicate (suc n) zero v = let q : 0 ≡ 0 - suc n = omega arith in ap (λ (j : ℕ). replicate j v) q
-  drop-replicate (suc n) (suc k) v = let q : k - n ≡ suc k - suc n = omega arith in drop-replicate n k v ∙ ap (λ (j : ℕ). replicate j v) q
 
 pub take-map : {A B : Type 0} (f : A → B) (n : ℕ) (d : List A) → take n (map f d) ≡ map f (take n d)
 take-map f zero d = refl

@@ -2,17 +2,17 @@
 use mathlib.Core.Path.{_≡_, refl, ap, _∙_}
 use mathlib.Core.Bool.{Bool, true, false, _&&_}
 use mathlib.Core.List.{List, [], _∷_, _++_}
-use Prim.Native.Nat.{ℕ, zero, suc, _+_, _-_, _*_, _%_, _<_, _≤_}
+use Prim.Native.Nat.{ℕ, zero, suc, _+_, _-_, _*_, _/_, _%_, _<_, _≤_}
 use native.Mathlib.Nat.{not-suc-le-zero, le-of-suc-le-suc}
 use native.Mathlib.Omega.{arith}
-use lib.Dec.{T, leb, ltb, eqb, leb→le, ltb→lt}
+use lib.Dec.{T, leb, ltb, eqb, leb→le, ltb→lt, eqb→eq}
 use lib.IntN.{ℤ, pos, negsuc, natAbs}
 use lib.ListN.{length, getD, take, drop, length-take, length-drop}
+use mir.Facts.{and-yes}
 use Rattle.meaning.specs.Limits.{mostEvents, mostClauses, mostInClause, mostAlternatives, mostBound}
 use Rattle.meaning.specs.Problem.{Alternative, Clause}
 use Rattle.meaning.specs.Plain.{Selection, nowhere, chosen}
 use Rattle.meaning.specs.Screen.{Lent, Input, alternatives, parted, clausesOf, stepped, events, bounds, isEvent, isBound, problemTests, planTests, firstFailed, problemRefusal, refusal}
-use Rattle.meaning.proofs.Booleans.{both-left, both-right}
 use Rattle.meaning.proofs.Settling.{Each, In}
 use Rattle.meaning.proofs.Rows.{Short}
 
@@ -100,38 +100,71 @@ module _ (P : Alternative → Type 0) where
   parted-every from (e ∷ counts) fs h =
       (each-take (e - from) fs h, parted-every e counts (drop (e - from) fs) (each-drop (e - from) fs h))
 
--- ---- from the tests to the facts
-below-n : (n : ℕ) (x : ℤ) → T (isEvent n x) → natAbs x < n
-below-n n (pos k) t = ltb→lt k n (both-right (leb 0 k) (ltb k n) t)
-below-n n (negsuc k) t = absurd t
+-- ---- what the tests say of a list, one step at a time
+-- a number of an event below n
+abbrev pub Event : ℕ → ℤ → Type 0
+Event n x = (k : ℕ) × ((x ≡ pos k) × (k < n))
 
+is-event : (n : ℕ) (x : ℤ) → T (isEvent n x) → Event n x
+is-event n (pos k) t = (k, (refl, ltb→lt k n (and-yes (leb 0 k) (ltb k n) t .1)))
+is-event n (negsuc k) t = absurd t
+
+-- of the first triple's events, and the rest
+pub first-events : (n : ℕ) (x y c : ℤ) (more : List ℤ) → T (events (isEvent n) (x ∷ (y ∷ (c ∷ more)))) → (Event n x × Event n y) × T (events (isEvent n) more)
+unfolding events
+first-events n x y c more t =
+    let two = and-yes (isEvent n x && isEvent n y) (events (isEvent n) more) t in
+    let each = and-yes (isEvent n x) (isEvent n y) (two .0) in
+    ((is-event n x (each .0), is-event n y (each .1)), two .1)
+
+-- of the first triple's bound, and the rest
+pub first-bound : (x y c : ℤ) (more : List ℤ) → T (bounds isBound (x ∷ (y ∷ (c ∷ more)))) → (natAbs c ≤ mostBound) × T (bounds isBound more)
+unfolding bounds
+first-bound x y c more t =
+    let two = and-yes (isBound c) (bounds isBound more) t in
+    (leb→le (natAbs c) mostBound (two .0), two .1)
+
+-- of the first count, and the rest
+pub record Rises (last from e : ℕ) (counts : List ℕ) : Type 0 where
+  pub up : from ≤ e
+  pub by : e ≤ from + mostInClause
+  pub rest : T (stepped last e counts)
+
+pub first-count : (last from e : ℕ) (counts : List ℕ) → T (stepped last from (e ∷ counts)) → Rises last from e counts
+unfolding stepped
+first-count last from e counts t =
+    let two = and-yes (leb from e && leb e (from + mostInClause)) (stepped last e counts) t in
+    let each = and-yes (leb from e) (leb e (from + mostInClause)) (two .0) in
+    record { up = leb→le from e (each .0); by = leb→le e (from + mostInClause) (each .1); rest = two .1 }
+
+-- ---- from the tests to the facts
 alternatives-in : (n j : ℕ) (xs : List ℤ) → T (events (isEvent n) xs) → Each (In n) (alternatives j xs)
-unfolding alternatives events
+unfolding alternatives
 alternatives-in n j [] t = tt
 alternatives-in n j (x ∷ []) t = tt
 alternatives-in n j (x ∷ (y ∷ [])) t = tt
 alternatives-in n j (x ∷ (y ∷ (c ∷ more))) t =
-    let E : Bool = events (isEvent n) more in
-    let X : Bool = isEvent n x in
-    let Y : Bool = isEvent n y in
-    ((below-n n x (both-left X Y (both-left (X && Y) E t)), below-n n y (both-right X Y (both-left (X && Y) E t))), alternatives-in n (suc j) more (both-right (X && Y) E t))
+    let f = first-events n x y c more t in
+    ((below-n x (f .0 .0), below-n y (f .0 .1)), alternatives-in n (suc j) more (f .1))
+  where
+    below-n : (z : ℤ) → Event n z → natAbs z < n
+    below-n z (k, (e, l)) = rw e l
 
 alternatives-bounded : (j : ℕ) (xs : List ℤ) → T (bounds isBound xs) → Each Bounded (alternatives j xs)
-unfolding alternatives bounds
+unfolding alternatives
 alternatives-bounded j [] t = tt
 alternatives-bounded j (x ∷ []) t = tt
 alternatives-bounded j (x ∷ (y ∷ [])) t = tt
 alternatives-bounded j (x ∷ (y ∷ (c ∷ more))) t =
-    (leb→le (natAbs c) mostBound (both-left (isBound c) (bounds isBound more) t), alternatives-bounded (suc j) more (both-right (isBound c) (bounds isBound more) t))
+    let f = first-bound x y c more t in
+    (f .0, alternatives-bounded (suc j) more (f .1))
 
 parted-short : (last from : ℕ) (counts : List ℕ) (fs : List Alternative) → T (stepped last from counts) → Short (parted from counts fs)
-unfolding parted stepped
+unfolding parted
 parted-short last from [] fs t = tt
 parted-short last from (e ∷ counts) fs t =
-    let A : Bool = leb from e in
-    let B : Bool = leb e (from + mostInClause) in
-    let h : e ≤ from + mostInClause = leb→le e (from + mostInClause) (both-right A B (both-left (A && B) (stepped last e counts) t)) in
-    (omega (arith, length-take (e - from) fs), parted-short last e counts (drop (e - from) fs) (both-right (A && B) (stepped last e counts) t))
+    let f = first-count last from e counts t in
+    (omega (arith, length-take (e - from) fs, f .by), parted-short last e counts (drop (e - from) fs) (f .rest))
 
 pub parted-length : (from : ℕ) (counts : List ℕ) (fs : List Alternative) → length (parted from counts fs) ≡ length counts
 unfolding parted
@@ -149,12 +182,41 @@ parted-sizes from [] fs = omega arith
 parted-sizes from (e ∷ counts) fs =
     omega (arith, parted-sizes e counts (drop (e - from) fs), length-take (e - from) fs, length-drop (e - from) fs)
 
-alternatives-length : (j : ℕ) (xs : List ℤ) → length (alternatives j xs) * 3 ≤ length xs
+pub alternatives-count : (i : ℕ) (ts : List ℤ) → length (alternatives i ts) ≡ length ts / 3
 unfolding alternatives
-alternatives-length j [] = omega arith
-alternatives-length j (x ∷ []) = omega arith
-alternatives-length j (x ∷ (y ∷ [])) = omega arith
-alternatives-length j (x ∷ (y ∷ (c ∷ more))) = omega (arith, alternatives-length (suc j) more)
+alternatives-count i [] = refl
+alternatives-count i (x ∷ []) = omega arith
+alternatives-count i (x ∷ (y ∷ [])) = omega arith
+alternatives-count i (x ∷ (y ∷ (c ∷ more))) = omega (arith, alternatives-count (suc i) more)
+
+-- ---- the tests that an accepted problem passes
+pub record Passes (l : Lent) : Type 0 where
+  pub some : 1 ≤ l .n
+  pub most : l .n ≤ mostEvents
+  pub few : length (l .counts) ≤ mostClauses
+  pub whole : length (l .triples) % 3 ≡ 0
+  pub all : length (l .triples) ≤ 3 * mostAlternatives
+  pub steps : T (stepped (length (l .triples) / 3) 0 (l .counts))
+  pub events : T (events (isEvent (l .n)) (l .triples))
+  pub bounds : T (bounds isBound (l .triples))
+
+pub passes : (l : Lent) → problemRefusal l ≡ 0 → Passes l
+unfolding problemRefusal problemTests
+passes l e =
+    let p = all-passed 1 _ (omega arith) e in
+    let L : ℕ = length (l .triples) in
+    let sizes = and-yes (leb 1 (l .n)) (leb (l .n) mostEvents) (p .0) in
+    let threes = and-yes (eqb (L % 3) 0) (leb L (3 * mostAlternatives)) (p .1 .1 .0) in
+    record {
+      some = leb→le 1 (l .n) (sizes .0);
+      most = leb→le (l .n) mostEvents (sizes .1);
+      few = leb→le (length (l .counts)) mostClauses (p .1 .0);
+      whole = eqb→eq (L % 3) 0 (threes .0);
+      all = leb→le L (3 * mostAlternatives) (threes .1);
+      steps = p .1 .1 .1 .0;
+      events = p .1 .1 .1 .1 .0;
+      bounds = p .1 .1 .1 .1 .1 .0;
+    }
 
 pub record Accepted (l : Lent) : Type 0 where
   pub taken : problemRefusal l ≡ 0
@@ -167,17 +229,17 @@ pub record Accepted (l : Lent) : Type 0 where
   pub all : sizes (clausesOf l) ≤ mostAlternatives
 
 pub accepted : (l : Lent) → problemRefusal l ≡ 0 → Accepted l
-unfolding problemRefusal problemTests clausesOf
+unfolding clausesOf
 accepted l e =
-    let p = all-passed 1 _ (omega arith) e in
+    let p = passes l e in
     let given : List Alternative = alternatives 0 (l .triples) in
     record {
       taken = e;
-      some = leb→le 1 (l .n) (both-left (leb 1 (l .n)) (leb (l .n) mostEvents) (p .0));
-      most = leb→le (l .n) mostEvents (both-right (leb 1 (l .n)) (leb (l .n) mostEvents) (p .0));
-      within = parted-every (In (l .n)) 0 (l .counts) given (alternatives-in (l .n) 0 (l .triples) (p .1 .1 .1 .1 .0));
-      bounded = parted-every Bounded 0 (l .counts) given (alternatives-bounded 0 (l .triples) (p .1 .1 .1 .1 .1 .0));
-      short = parted-short _ 0 (l .counts) given (p .1 .1 .1 .0);
-      few = omega (arith, parted-length 0 (l .counts) given, leb→le (length (l .counts)) mostClauses (p .1 .0));
-      all = omega (arith, parted-sizes 0 (l .counts) given, alternatives-length 0 (l .triples), leb→le (length (l .triples)) (3 * mostAlternatives) (both-right (eqb (length (l .triples) % 3) 0) (leb (length (l .triples)) (3 * mostAlternatives)) (p .1 .1 .0)));
+      some = p .some;
+      most = p .most;
+      within = parted-every (In (l .n)) 0 (l .counts) given (alternatives-in (l .n) 0 (l .triples) (p .events));
+      bounded = parted-every Bounded 0 (l .counts) given (alternatives-bounded 0 (l .triples) (p .bounds));
+      short = parted-short _ 0 (l .counts) given (p .steps);
+      few = omega (arith, parted-length 0 (l .counts) given, p .few);
+      all = omega (arith, parted-sizes 0 (l .counts) given, alternatives-count 0 (l .triples), p .all);
     }

@@ -8,10 +8,10 @@ use native.Mathlib.Omega.{arith}
 use lib.Dec.{T, eqb, eqb→eq, leb→le, le→leb, ltb→lt}
 use lib.IntN.{ℤ, pos, negsuc, negℤ, _+ℤ_, _-ℤ_, +ℤ-comm, +ℤ-assoc, +ℤ-invr, pos-+ℤ-pos, -ℤ-+ℤ-cancel}
 use lib.Signed.{leZ, ltZ}
+use mir.Facts.{and-yes}
+use Rattle.laws.proofs.Differences.{above-is, below-is, Minus, below, above, minus}
 use Rattle.meaning.specs.Problem.{Alternative, Timetable, satisfied, Satisfies}
 use Rattle.meaning.specs.Reasons.{named, given, walk, loops, numbers, filled, cycleOver}
-use Rattle.meaning.proofs.Deciding.{Minus, below, above, minus}
-use Rattle.meaning.proofs.Booleans.{both-left, both-right}
 
 -- a ≤ b exactly where b is a and a natural number
 more-than : (a : ℤ) (k : ℕ) → T (leZ a (a +ℤ pos k))
@@ -25,22 +25,10 @@ more-than (negsuc n) k = go (minus k (suc n))
 difference : (a b : ℤ) → T (leZ a b) → (k : ℕ) × (b ≡ a +ℤ pos k)
 difference (pos a) (pos b) t = let h : a ≤ b = leb→le a b t in (b - a, ap pos (omega arith))
 difference (pos a) (negsuc b) t = absurd t
-difference (negsuc a) (pos b) t = (b + suc a, go (minus (b + suc a) (suc a)))
-  where
-    go : {z : ℤ} → Minus (b + suc a) (suc a) z → pos b ≡ z
-    go (below h) = absurd (no-way h)
-      where
-        no-way : b + suc a < suc a → ⊥
-        no-way h = omega arith
-    go (above h) = ap pos (omega arith)
-difference (negsuc a) (negsuc b) t = (a - b, go (minus (a - b) (suc a)))
-  where
-    go : {z : ℤ} → Minus (a - b) (suc a) z → negsuc b ≡ z
-    go (below h) = let l : b ≤ a = leb→le b a t in ap negsuc (omega arith)
-    go (above h) = absurd (no-way h)
-      where
-        no-way : suc a ≤ a - b → ⊥
-        no-way h = omega arith
+difference (negsuc a) (pos b) t = (b + suc a, sym (above-is (b + suc a) (suc a) (omega arith) ∙ ap pos (omega arith)))
+difference (negsuc a) (negsuc b) t =
+    let l : b ≤ a = leb→le b a t in
+    (a - b, sym (below-is (a - b) (suc a) (omega arith) ∙ ap negsuc (omega arith)))
 
 -- orders add
 add-le : (a b c d : ℤ) → T (leZ a b) → T (leZ c d) → T (leZ (a +ℤ c) (b +ℤ d))
@@ -84,20 +72,20 @@ walk-none : (t : Timetable) (fs : List Alternative) → Satisfies t fs → (star
 unfolding walk
 walk-none t fs h start here z [] s g =
     below-zero z
-    (subst (λ w. T (leZ w z)) (+ℤ-invr (t start)) (subst (λ e. T (leZ (t e -ℤ t start) z)) (eqb→eq here start (both-left (eqb here start) (ltZ z (pos 0)) g)) s))
-    (both-right (eqb here start) (ltZ z (pos 0)) g)
+    (subst (λ w. T (leZ w z)) (+ℤ-invr (t start)) (subst (λ e. T (leZ (t e -ℤ t start) z)) (eqb→eq here start (and-yes (eqb here start) (ltZ z (pos 0)) g .0)) s))
+    (and-yes (eqb here start) (ltZ z (pos 0)) g .1)
 walk-none t fs h start here z (b ∷ bs) s g =
     go (named-satisfied t fs b (λ a. eqb (a .y) here && walk fs start (a .x) (z +ℤ a .c) bs) h g)
     (λ a o k. walk-none t fs h start (a .x) (z +ℤ a .c) bs o k)
   where
     go : ((a : Alternative) × T (satisfied t a) × T (eqb (a .y) here && walk fs start (a .x) (z +ℤ a .c) bs)) → ((a : Alternative) → T (leZ (t (a .x) -ℤ t start) (z +ℤ a .c)) → T (walk fs start (a .x) (z +ℤ a .c) bs) → ⊥) → ⊥
     go (a, o, k) on =
-        on a (arc-on t start here z a s o (eqb→eq (a .y) here (both-left (eqb (a .y) here) (walk fs start (a .x) (z +ℤ a .c) bs) k)))
-        (both-right (eqb (a .y) here) (walk fs start (a .x) (z +ℤ a .c) bs) k)
+        on a (arc-on t start here z a s o (eqb→eq (a .y) here (and-yes (eqb (a .y) here) (walk fs start (a .x) (z +ℤ a .c) bs) k .0)))
+        (and-yes (eqb (a .y) here) (walk fs start (a .x) (z +ℤ a .c) bs) k .1)
 
 pub cycle-none : (t : Timetable) (fs : List Alternative) (row : List ℕ) → T (cycleOver fs row) → Satisfies t fs → ⊥
 unfolding cycleOver
-cycle-none t fs row g h = go (numbers row) (both-right (filled row) (loops fs (numbers row)) g)
+cycle-none t fs row g h = go (numbers row) (and-yes (filled row) (loops fs (numbers row)) g .1)
   where
     go : (bs : List ℕ) → T (loops fs bs) → ⊥
     go [] k = unfold loops in k

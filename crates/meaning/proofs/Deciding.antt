@@ -1,51 +1,21 @@
 -- Integer times and minutes before closing: `sound` decides whether some timetable satisfies the facts, and the least numbers are the latest timetable.
 -- Assumes nothing.
 use mathlib.Core.Path.{_≡_, refl, sym, ap, ap₂, _∙_, subst}
-use mathlib.Core.Bool.{Bool, true, false, not, cond}
 use mathlib.Core.List.{List, [], _∷_}
 use Prim.Native.Nat.{ℕ, zero, suc, _+_, _-_, _<_, _≤_, zero-le}
 use native.Mathlib.Nat.{le-trans}
 use native.Mathlib.Omega.{arith}
-use lib.Dec.{T, ltb, leb→le, le→leb, ltb→lt, nltb→le}
+use lib.Dec.{T, leb→le, le→leb}
 use lib.IntN.{ℤ, pos, negsuc, negℤ, subℕ, _+ℤ_, _-ℤ_, negℤ-+ℤ, negℤ-negℤ, +ℤ-comm, +ℤ-assoc, +ℤ-negℤ-cancel, +ℤ-idl}
 use lib.Signed.{leZ, _≤ℤ_}
 use lib.ListN.{length, getD, length-map, length-replicate, replicate, List·getD-map}
 use lib.Seq.{ext-getD}
+use Rattle.laws.proofs.Differences.{above-is, below-is, Minus, below, above, minus, sub-is}
 use Rattle.meaning.specs.Problem.{Alternative, Timetable, satisfied, Satisfies, Sound}
 use Rattle.meaning.specs.Plain.{Latest}
 use Rattle.meaning.specs.Search.{Decides}
 use Rattle.meaning.specs.Decision.{ask, least, latestOf, reach, sound}
 use Rattle.meaning.proofs.Settling.{Each, each-map, each-map₃, In, Meets, at, total, total-has, rounds-length, least-under, sound-right, sound-whole}
-
-pub data Minus (a b : ℕ) : ℤ → Type 0 where
-  below : a < b → Minus a b (negsuc (b - suc a))
-  above : b ≤ a → Minus a b (pos (a - b))
-
-pub minus : (a b : ℕ) → Minus a b (subℕ a b)
-minus a b = go (ltb a b) refl
-  where
-    go : (x : Bool) → ltb a b ≡ x → Minus a b (cond x (negsuc (b - suc a)) (pos (a - b)))
-    go true e = below (ltb→lt a b (subst T (sym e) tt))
-    go false e = above (nltb→le a b (subst (λ (x : Bool). T (not x)) (sym e) tt))
-
--- equal differences
-pub minus-same : {a b c d : ℕ} {x y : ℤ} → Minus a b x → Minus c d y → a + d ≡ c + b → x ≡ y
-minus-same (below h) (below k) e = ap negsuc (omega arith)
-minus-same (below h) (above k) e = absurd (omega arith)
-minus-same (above h) (below k) e = absurd (omega arith)
-minus-same (above h) (above k) e = ap pos (omega arith)
-
--- differences add
-pub sub-add : (a b c d : ℕ) → subℕ a b +ℤ subℕ c d ≡ subℕ (a + c) (b + d)
-sub-add a b c d = go (minus a b) (minus c d) (minus (a + c) (b + d))
-  where
-    go : {x y z : ℤ} → Minus a b x → Minus c d y → Minus (a + c) (b + d) z → x +ℤ y ≡ z
-    go (below h) (below k) (below l) = ap negsuc (omega arith)
-    go (below h) (below k) (above l) = absurd (omega arith)
-    go (below h) (above k) m = minus-same (minus (c - d) (suc (b - suc a))) m (omega arith)
-    go (above h) (below k) m = minus-same (minus (a - b) (suc (d - suc c))) m (omega arith)
-    go (above h) (above k) (below l) = absurd (omega arith)
-    go (above h) (above k) (above l) = ap pos (omega arith)
 
 -- a − b ≤ c is: what c asks of a is at most b
 ask-of : (a b : ℕ) (c : ℤ) → T (leZ (subℕ a b) c) → ask a c ≤ b
@@ -68,17 +38,6 @@ of-ask a b c h = go c (minus a b) h
     go (negsuc k) (below h) t = le→leb k (b - suc a) (omega arith)
     go (negsuc k) (above h) t = omega arith
 
-sub-is : (a b : ℕ) → pos a -ℤ pos b ≡ subℕ a b
-sub-is a zero = go (minus a zero)
-  where
-    go : {z : ℤ} → Minus a zero z → pos (a + 0) ≡ z
-    go (below h) = absurd (none h)
-      where
-        none : a < 0 → ⊥
-        none h = omega arith
-    go (above h) = ap pos (omega arith)
-sub-is a (suc b) = refl
-
 -- the times M − s differ as the numbers s do, turned round
 apart : (M x y : ℕ) → (pos M -ℤ pos x) -ℤ (pos M -ℤ pos y) ≡ subℕ y x
 apart M x y =
@@ -100,22 +59,8 @@ past (negsuc k) = 0
 
 short-is : (M : ℕ) (z : ℤ) → past z ≤ M → z ≡ pos M -ℤ pos (short M z)
 unfolding short past
-short-is M (pos k) h = sym (sub-is M (M - k) ∙ go (minus M (M - k)))
-  where
-    go : {z : ℤ} → Minus M (M - k) z → z ≡ pos k
-    go (below l) = absurd (none l)
-      where
-        none : M < M - k → ⊥
-        none l = omega arith
-    go (above l) = ap pos (omega arith)
-short-is M (negsuc k) h = sym (sub-is M (M + suc k) ∙ go (minus M (M + suc k)))
-  where
-    go : {z : ℤ} → Minus M (M + suc k) z → z ≡ negsuc k
-    go (below l) = ap negsuc (omega arith)
-    go (above l) = absurd (none l)
-      where
-        none : M + suc k ≤ M → ⊥
-        none l = omega arith
+short-is M (pos k) h = sym (sub-is M (M - k) ∙ above-is M (M - k) (omega arith) ∙ ap pos (omega arith))
+short-is M (negsuc k) h = sym (sub-is M (M + suc k) ∙ below-is M (M + suc k) (omega arith) ∙ ap negsuc (omega arith))
 
 -- times that are M less numbers satisfy an alternative exactly where the numbers meet it
 meets-of : (M : ℕ) (t : Timetable) (σ : ℕ → ℕ) (a : Alternative) → t (a .x) ≡ pos M -ℤ pos (σ (a .x)) → t (a .y) ≡ pos M -ℤ pos (σ (a .y)) → T (satisfied t a) → Meets σ a

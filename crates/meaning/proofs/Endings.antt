@@ -3,12 +3,13 @@ use mathlib.Core.Path.{_≡_, refl, sym, ap, _∙_, subst}
 use mathlib.Core.Bool.{Bool, true, false}
 use mathlib.Core.Logic.{_⊎_, inl, inr}
 use mathlib.Core.List.{List, [], _++_}
-use Prim.Native.Nat.{ℕ, zero, suc, _+_, _-_, _*_, _^_, _≤_}
+use Prim.Native.Nat.{ℕ, zero, suc, _-_, _*_, _^_, _≤_}
 use native.Mathlib.Nat.{le-trans}
 use native.Mathlib.Omega.{arith}
 use lib.Dec.{T, leb, leb→le}
 use lib.IntN.{ℤ}
 use lib.ListN.{length, replicate}
+use Rattle.laws.proofs.Tests.{is-true}
 use Rattle.meaning.specs.declared.Answer.{Answer}
 use Rattle.meaning.specs.declared.Answer.the-variants.{Plan, None, Unlisted, Stopped, Refused}
 use Rattle.meaning.specs.Limits.{rowBytes, blankByte, noTime}
@@ -17,7 +18,6 @@ use Rattle.meaning.specs.Plain.{chosen, timesOf}
 use Rattle.meaning.specs.Decision.{sound, latestOf}
 use Rattle.meaning.specs.Search.{Row, Outcome, found, closed, stopped}
 use Rattle.meaning.specs.Screen.{Lent, Input, clausesOf, refusal, Screen, cleared, listed, shown, outcome, decided, screen, Shows}
-use Rattle.meaning.proofs.Booleans.{is-true}
 use Rattle.meaning.proofs.Accepted.{Accepted, accepted, plan-problem}
 use Rattle.meaning.proofs.Demands.{FirstPlan, NoPlan, Halt, found-first, closed-none, stopped-halt}
 use Rattle.meaning.proofs.Deciding.{sound-decides}

@@ -11,12 +11,12 @@ use native.Mathlib.Decide.{decLt}
 use native.Mathlib.Omega.{arith}
 use lib.Dec.{T}
 use lib.ListN.{length, getD}
+use Rattle.laws.proofs.Tests.{same-test, never}
 use Rattle.meaning.specs.Limits.{onwardMark}
 use Rattle.meaning.specs.Problem.{Alternative, opposite, Clause, Timetable, satisfied, Satisfies, Sound}
 use Rattle.meaning.specs.Plain.{Selection, nowhere, chosen, Holds, _≺_, product, rank}
 use Rattle.meaning.specs.Search.{Standing, Row, mark, Outcome, found, closed, stopped, enter, look, later, andThen, branch, dead, firstDead, search, facts, Decides}
 use Rattle.meaning.proofs.Opposite.{split}
-use Rattle.meaning.proofs.Booleans.{never}
 
 -- no timetable of the facts satisfies a selection of cs
 abbrev pub Closed : List Clause → List Alternative → Type 0
@@ -138,13 +138,14 @@ module _ (a : Alternative) (more : Clause) (cs : List Clause) (fs : List Alterna
   then-from i (closed n r w) rest k g = later-from i n r (rest w) (k .0) (k .1) (g w)
   then-from i (stopped b r p) rest k g = (0, p, ap (λ (m : ℕ). m ∷ p) (omega arith), halted-here b p k)
 
+-- an empty clause closes everything
+pub closed-empty : (cs : List Clause) (fs : List Alternative) → Closed ([] ∷ cs) fs
+closed-empty cs fs [] s t k g = s
+closed-empty cs fs (j ∷ q) s t k g = not-suc-le-zero (s .0)
+
 branch-from : (go : List Alternative → ℕ → Outcome) (cs : List Clause) → ((fs : List Alternative) (v : ℕ) → Claim cs fs (go fs v)) → (i : ℕ) (c : Clause) (fs : List Alternative) (v : ℕ) → From i c cs fs (branch go i c fs v)
 unfolding branch product
-branch-from go cs h i [] fs v = (none′, omega (arith, zero-mul (product cs)))
-  where
-    none′ : Closed ([] ∷ cs) fs
-    none′ [] s t k g = s
-    none′ (j ∷ q) s t k g = not-suc-le-zero (s .0)
+branch-from go cs h i [] fs v = (closed-empty cs fs, omega (arith, zero-mul (product cs)))
 branch-from go cs h i (a ∷ more) fs v =
     then-from a more cs fs i (go (a ∷ fs) v) (λ w. branch go (suc i) more (opposite a ∷ fs) w) (h (a ∷ fs) v)
     (λ w. branch-from go cs h (suc i) more (opposite a ∷ fs) w)
@@ -169,7 +170,7 @@ dead-first true o d e = inl refl
 dead-first false none d e = absurd (never (cc))
 dead-first false (some m) d e = inr (m, refl)
 
-rank-none : (cs : List Clause) → 0 ≡ rank cs []
+pub rank-none : (cs : List Clause) → 0 ≡ rank cs []
 unfolding rank
 rank-none [] = refl
 rank-none (c ∷ cs) = refl
@@ -303,21 +304,9 @@ first-one cs p q f g = pick (order cs p q (f .sel) (g .sel))
 -- what decides the same facts is the same: an engine's own test may stand for `sound`
 pub decides-same : (sound other : List Alternative → Bool) → Decides sound → Decides other → (fs : List Alternative) → sound fs ≡ other fs
 decides-same sound other h k fs =
-    same (sound fs) (other fs) (λ t. let y : Sound fs = h .right fs t in k .whole fs (y .0) (y .1)) (λ t. let y : Sound fs = k .right fs t in h .whole fs (y .0) (y .1))
-  where
-    same : (a b : Bool) → (T a → T b) → (T b → T a) → a ≡ b
-    same true true f g = refl
-    same true false f g = absurd (f tt)
-    same false true f g = absurd (g tt)
-    same false false f g = refl
+    same-test (sound fs) (other fs) (λ t. let y : Sound fs = h .right fs t in k .whole fs (y .0) (y .1)) (λ t. let y : Sound fs = k .right fs t in h .whole fs (y .0) (y .1))
 
 -- facts with the same timetables are as sound: their order and their copies do not product
 pub sound-same : (sound : List Alternative → Bool) → Decides sound → (fs gs : List Alternative) → ((t : Timetable) → Satisfies t fs → Satisfies t gs) → ((t : Timetable) → Satisfies t gs → Satisfies t fs) → sound fs ≡ sound gs
 sound-same sound h fs gs f g =
-    same (sound fs) (sound gs) (λ t. let y : Sound fs = h .right fs t in h .whole gs (y .0) (f (y .0) (y .1))) (λ t. let y : Sound gs = h .right gs t in h .whole fs (y .0) (g (y .0) (y .1)))
-  where
-    same : (a b : Bool) → (T a → T b) → (T b → T a) → a ≡ b
-    same true true f g = refl
-    same true false f g = absurd (f tt)
-    same false true f g = absurd (g tt)
-    same false false f g = refl
+    same-test (sound fs) (sound gs) (λ t. let y : Sound fs = h .right fs t in h .whole gs (y .0) (f (y .0) (y .1))) (λ t. let y : Sound gs = h .right gs t in h .whole fs (y .0) (g (y .0) (y .1)))

@@ -1,4 +1,3 @@
-pub mod Booleans
 pub mod Opposite
 pub mod Settling
 pub mod Deciding

@@ -9,12 +9,13 @@ use native.Mathlib.Omega.{arith}
 use lib.Dec.{T}
 use lib.ListN.{length, take, drop, replicate, length-append, length-replicate}
 use lib.Seq.{take-at, drop-at, drop-append-add}
+use mir.Facts.{yes-and}
+use Rattle.laws.proofs.Lists.{drop-replicate}
 use Rattle.meaning.specs.Limits.{blankByte}
 use Rattle.meaning.specs.Problem.{Clause}
 use Rattle.meaning.specs.Plain.{Selection, Holds}
 use Rattle.meaning.specs.Search.{Row, mark, cycle}
 use Rattle.meaning.specs.Reasons.{blank, markRow, read, cut, rowsOf, allBlank, ends, isReading, Writes, Written}
-use Rattle.meaning.proofs.Booleans.{both}
 use Rattle.meaning.proofs.Reading.{Front, read-none}
 
 -- 255s are blank, and so is each part of them
@@ -28,11 +29,6 @@ unfolding blank
 take-blanks zero k = tt
 take-blanks (suc n) zero = tt
 take-blanks (suc n) (suc k) = take-blanks n k
-
-pub drop-blanks : (n k : ℕ) → drop n (replicate k blankByte) ≡ replicate (k - n) blankByte
-drop-blanks zero k = rw (let p : k - 0 ≡ k = omega arith in p)
-drop-blanks (suc n) zero = rw (let p : 0 - suc n ≡ 0 = omega arith in p)
-drop-blanks (suc n) (suc k) = rw (let p : suc k - suc n ≡ k - n = omega arith in p) (drop-blanks n k)
 
 module _ (W : ℕ) (wide : 0 < W) where
   pub writes-length : (x : Row) (row : List ℕ) → Writes W x row → length row ≡ W
@@ -77,14 +73,14 @@ module _ (W : ℕ) (wide : 0 < W) where
   unfolding cut allBlank
   cut-blanks zero k = tt
   cut-blanks (suc j) k =
-      both (blank (take W (replicate k blankByte))) (allBlank W (cut W j (drop W (replicate k blankByte)))) (take-blanks W k)
-      (subst (λ (l : List ℕ). T (allBlank W (cut W j l))) (sym (drop-blanks W k)) (cut-blanks j (k - W)))
+      yes-and (blank (take W (replicate k blankByte))) (allBlank W (cut W j (drop W (replicate k blankByte)))) (take-blanks W k)
+      (subst (λ (l : List ℕ). T (allBlank W (cut W j l))) (sym (drop-replicate W k blankByte)) (cut-blanks j (k - W)))
 
   -- the rows of a search that ended without a plan, and 255s after them
   pub written-reading : (cs : List Clause) (r : List Row) (bytes : List ℕ) (k : ℕ) → Written W r bytes → ((rows rest : List (List ℕ)) → Front W r rows rest → read W cs 0 [] rows ≡ some rest) → T (isReading W cs (bytes ++ replicate k blankByte))
   unfolding isReading rowsOf
   written-reading cs r bytes k w readable =
-      subst (λ (o : Option (List (List ℕ))). T (ends W o (drop (length list / W * W) list))) (sym is-read) (unfold ends in both (allBlank W (cut W (k / W) (replicate k blankByte))) (blank (drop (length list / W * W) list)) (cut-blanks (k / W) k) (subst (λ (l : List ℕ). T (blank l)) (sym tail-is) (blanks (k - k / W * W))))
+      subst (λ (o : Option (List (List ℕ))). T (ends W o (drop (length list / W * W) list))) (sym is-read) (unfold ends in yes-and (allBlank W (cut W (k / W) (replicate k blankByte))) (blank (drop (length list / W * W) list)) (cut-blanks (k / W) k) (subst (λ (l : List ℕ). T (blank l)) (sym tail-is) (blanks (k - k / W * W))))
     where
       list : List ℕ
       list = bytes ++ replicate k blankByte
@@ -104,7 +100,7 @@ module _ (W : ℕ) (wide : 0 < W) where
       tail-is =
           ap (λ (m : ℕ). drop m list) (ap (λ (m : ℕ). m * W) many ∙ add-mul (length r) (k / W) W ∙ ap (λ (m : ℕ). m + k / W * W) (sym (written-length r bytes w)))
           ∙ drop-append-add bytes (replicate k blankByte) (k / W * W)
-          ∙ drop-blanks (k / W * W) k
+          ∙ drop-replicate (k / W * W) k blankByte
 
 -- a list that is a reading: no selection holds
 pub reading-none : (W : ℕ) (cs : List Clause) (list : List ℕ) → T (isReading W cs list) → (q : List ℕ) → Selection cs q → ¬ Holds cs q

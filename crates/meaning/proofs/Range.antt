@@ -1,12 +1,12 @@
 -- No number of the least ones exceeds (n − 1) · W, where no fact asks for more than W above another event. Assumes nothing.
 use mathlib.Core.Path.{sym, subst}
 use mathlib.Core.Bool.{Bool, true}
-use mathlib.Core.Logic.{_⊎_, ⊎-elim, by-cases}
+use mathlib.Core.Logic.{⊎-elim, by-cases}
 use mathlib.Core.List.{List}
 use Prim.Native.Nat.{ℕ, zero, suc, _+_, _-_, _*_, _<_, _≤_}
 use native.Mathlib.Nat.{le-refl, le-trans, zero-mul, suc-mul, mul-le-mul-right}
 use native.Mathlib.Decide.{decLt}
-use native.Mathlib.Omega.{arith}
+use native.Mathlib.Omega.{arith, by-contra}
 use lib.Dec.{T, ltb, ltb→lt, lt→ltb}
 use lib.IntN.{ℤ, pos, negsuc, natAbs}
 use lib.Signed.{_≤ℤ_}
@@ -89,10 +89,7 @@ module _ (n : ℕ) (fs : List Alternative) (inside : Each (In n) fs) (met : Each
   pub least-bound : (e : ℕ) → e < n → at (least n fs) e ≤ (n - 1) * W
   unfolding L over
   least-bound e l =
-      not-lt→le (λ h. tally-zero (over ((n - 1) * W)) n (omega (arith, fewer (omega arith) (n - 1))) e l (lt→ltb ((n - 1) * W) (L e) h))
-    where
-      not-lt→le : {u v : ℕ} → ¬ (u < v) → v ≤ u
-      not-lt→le h = omega arith
+      by-contra _ _ (λ h. tally-zero (over ((n - 1) * W)) n (omega (arith, fewer (omega arith) (n - 1))) e l (lt→ltb ((n - 1) * W) (L e) h))
 
 -- a bound within its limits asks for no more than the limit
 small-of : (a : Alternative) → Bounded a → Small mostBound a

@@ -8,14 +8,15 @@ use native.Mathlib.Nat.{le-of-suc-le-suc, not-suc-le-zero}
 use native.Mathlib.Omega.{arith}
 use lib.Dec.{T, leb, ltb, eqb, le→leb, ltb→lt, lt→ltb, eqb→eq, eqb-refl}
 use lib.ListN.{length, getD, replicate}
+use mir.Facts.{yes-and, and-yes}
+use Rattle.laws.proofs.Tests.{is-true, is-false, never}
 use Rattle.meaning.specs.Limits.{mostClauses, onwardMark}
 use Rattle.meaning.specs.Problem.{Alternative, opposite, Clause, Timetable, satisfied, Satisfies}
 use Rattle.meaning.specs.Plain.{Selection, nowhere, chosen, Holds}
 use Rattle.meaning.specs.Search.{Row, mark, cycle, Outcome, found, closed, stopped, enter, look, later, andThen, branch, dead, firstDead, search}
 use Rattle.meaning.specs.Reasons.{cycleOver, same, Kind, ring, onward, bad, deadAt, markRow, kind, cycleRows, front, reading, andRead, eachRead, read, Writes}
-use Rattle.meaning.proofs.First.{Closed, closed-both}
+use Rattle.meaning.proofs.First.{Closed, closed-both, closed-empty}
 use Rattle.meaning.proofs.Cycle.{cycle-none}
-use Rattle.meaning.proofs.Booleans.{both, both-right, is-true, is-false, never}
 
 abbrev Rows : Type 0
 Rows = List (List ℕ)
@@ -47,7 +48,7 @@ front-closed W onward cs k fs row rows down rest h e q s t y g = h e q s t y g
 front-closed W bad cs k fs row rows down rest h e q s t y g = never (cc)
 front-closed W (deadAt d) cs k fs row rows down rest h e q s t y g =
     let m = cond-some (leb k d && ltb (d - k) (length cs)) (cycleRows W fs (getD cs (d - k) []) rows) rest e in
-    let (i, l, o) = chosen-at cs q s (d - k) (ltb→lt (d - k) (length cs) (both-right (leb k d) (ltb (d - k) (length cs)) (m .0))) t g in
+    let (i, l, o) = chosen-at cs q s (d - k) (ltb→lt (d - k) (length cs) (and-yes (leb k d) (ltb (d - k) (length cs)) (m .0) .1)) t g in
     cycleRows-none W t fs (getD cs (d - k) []) rows rest (m .1) i l y o
 
 and-some : (W : ℕ) (o : Option Rows) (f : Rows → Option Rows) (rest : Rows) → andRead W o f ≡ some rest → (mid : Rows) × (o ≡ some mid) × (f mid ≡ some rest)
@@ -57,11 +58,7 @@ and-some W (some mid) f rest e = (mid, refl, e)
 
 each-closed : (W : ℕ) (go : List Alternative → Rows → Option Rows) (cs : List Clause) → ((fs : List Alternative) (rows rest : Rows) → go fs rows ≡ some rest → Closed cs fs) → (c : Clause) (fs : List Alternative) (rows rest : Rows) → eachRead W go c fs rows ≡ some rest → Closed (c ∷ cs) fs
 unfolding eachRead
-each-closed W go cs h [] fs rows rest e = none′
-  where
-    none′ : Closed ([] ∷ cs) fs
-    none′ [] s t k g = s
-    none′ (j ∷ q) s t k g = not-suc-le-zero (s .0)
+each-closed W go cs h [] fs rows rest e = closed-empty cs fs
 each-closed W go cs h (a ∷ more) fs rows rest e =
     let m = and-some W (go (a ∷ fs) rows) (λ r. eachRead W go more (opposite a ∷ fs) r) rest e in
     closed-both a more cs fs (h (a ∷ fs) rows (m .0) (m .1)) (each-closed W go cs h more (opposite a ∷ fs) (m .0) rest (m .2))
@@ -196,7 +193,7 @@ module _ (W : ℕ) where
       let g : k + d - k ≡ d = omega arith in
       ap (read W cs k fs) q
       ∙ read-kind cs k fs row tail (deadAt (k + d)) (ap (kind W) w ∙ kind-dead W (k + d) (omega arith))
-      ∙ (ap (λ (b : Bool). cond b (cycleRows W fs (getD cs (k + d - k) []) tail) none) (is-true (leb k (k + d) && ltb (k + d - k) (length cs)) (both (leb k (k + d)) (ltb (k + d - k) (length cs)) (le→leb k (k + d) (omega arith)) (lt→ltb (k + d - k) (length cs) (omega arith))))
+      ∙ (ap (λ (b : Bool). cond b (cycleRows W fs (getD cs (k + d - k) []) tail) none) (is-true (leb k (k + d) && ltb (k + d - k) (length cs)) (yes-and (leb k (k + d)) (ltb (k + d - k) (length cs)) (le→leb k (k + d) (omega arith)) (lt→ltb (k + d - k) (length cs) (omega arith))))
       ∙ ap (λ (i : ℕ). cycleRows W fs (getD cs i []) tail) g
       ∙ cycles-read fs (getD cs d []) tail rest f)
   look-readable sound none k cs fs w next e l h = h

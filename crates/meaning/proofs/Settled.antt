@@ -1,10 +1,11 @@
 -- What the definitions settle: two results that they allow for one input are the same, cycle rows apart; and programs that they shut out. Assumes nothing.
 use mathlib.Core.Path.{_≡_, sym, ap, _∙_, subst}
 use mathlib.Core.List.{List, [], _∷_, _++_}
-use Prim.Native.Nat.{ℕ, _+_, _-_, _<_}
+use Prim.Native.Nat.{ℕ, _-_, _<_}
 use native.Mathlib.Omega.{arith}
 use lib.IntN.{ℤ, pos}
 use lib.ListN.{length, getD, replicate, length-replicate, getD-replicate}
+use Rattle.laws.proofs.Tests.{never}
 use Rattle.meaning.specs.declared.Answer.{Answer}
 use Rattle.meaning.specs.declared.Answer.the-variants.{Plan, Stopped, Refused}
 use Rattle.meaning.specs.declared.Verdict.{Verdict}
@@ -16,7 +17,6 @@ use Rattle.meaning.specs.Reasons.{Written}
 use Rattle.meaning.specs.Screen.{Lent, Input, screen, Shows}
 use Rattle.meaning.specs.Verdicts.{reasonsVerdict, timetableVerdict}
 use Rattle.meaning.specs.Lamps.{panel}
-use Rattle.meaning.proofs.Booleans.{never}
 use Rattle.meaning.proofs.Endings.{IsPlan}
 use Rattle.meaning.proofs.Witnesses.{reasons-yes, timetable-yes}
 use Rattle.meaning.proofs.Days.{Seen, days, seen, days-hold, d1, d4, d4-list, d4-read, d1-read, d8, usual, minus}

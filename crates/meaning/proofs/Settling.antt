@@ -7,13 +7,13 @@ use mathlib.Core.List.{List, [], _∷_}
 use Prim.Native.Nat.{ℕ, zero, suc, _+_, _-_, _<_, _≤_, zero-le, max}
 use native.Mathlib.Nat.{le-of-suc-le-suc, not-suc-le-zero, le-refl, le-trans}
 use native.Mathlib.Decide.{decLt}
-use native.Mathlib.Omega.{arith}
+use native.Mathlib.Omega.{arith, by-contra}
 use lib.Dec.{T, leb, ltb, leb→le, le→leb, ltb→lt, lt→ltb}
 use lib.IntN.{ℤ, pos, negsuc}
 use lib.ListN.{length, getD, set, length-set, replicate, length-replicate}
+use mir.Facts.{yes-and, and-yes}
 use Rattle.meaning.specs.Problem.{Alternative}
 use Rattle.meaning.specs.Decision.{ask, raise, round, rounds, least, settled, soundBy}
-use Rattle.meaning.proofs.Booleans.{both, both-left, both-right}
 
 abbrev pub Each : (Alternative → Type 0) → List Alternative → Type 0
 Each P [] = Unit {0}
@@ -205,10 +205,7 @@ lowered v s = go (ltb v s) refl
   where
     go : (b : Bool) → ltb v s ≡ b → Lower v s (cond b (s - 1) s)
     go true e = less (ltb→lt v s (subst T (sym e) tt))
-    go false e = same (not-lt→le (λ h. subst T e (lt→ltb v s h)))
-      where
-        not-lt→le : ¬ (v < s) → s ≤ v
-        not-lt→le n = omega arith
+    go false e = same (by-contra _ _ (λ h. subst T e (lt→ltb v s h)))
 
 lower-le : (v s : ℕ) → lower v s ≤ s
 lower-le v s = go (lowered v s)
@@ -239,9 +236,6 @@ ask-less s x (negsuc k) hs hx h = omega arith
 lower-meets : (uy vx vy x y : ℕ) (c : ℤ) → ask uy c ≤ vx → ask y c ≤ x → (uy < y → vy < y) → ask (lower vy y) c ≤ lower vx x
 lower-meets uy vx vy x y c h m k = go (lowered vx x) (lowered vy y)
   where
-    not-lt→le : ¬ (uy < y) → y ≤ uy
-    not-lt→le n = omega arith
-
     go : {r s : ℕ} → Lower vx x r → Lower vy y s → ask s c ≤ r
     go (same i) l = le-trans (ask-mono c (below l)) m
       where
@@ -250,7 +244,7 @@ lower-meets uy vx vy x y c h m k = go (lowered vx x) (lowered vy y)
         below (same j) = le-refl y
     go (less i) (less j) = ask-less y x c (omega arith) (omega arith) m
     go (less i) (same j) =
-        le-trans (le-trans (ask-mono c (not-lt→le (λ g. let q : vy < y = k g in omega arith))) h) (omega arith)
+        le-trans (le-trans (ask-mono c (by-contra _ _ (λ g. let q : vy < y = k g in omega arith))) h) (omega arith)
 
 module _ (n : ℕ) (fs : List Alternative) (inside : Each (In n) fs) where
   gap : List ℕ → (ℕ → ℕ) → ℕ → Bool
@@ -302,11 +296,8 @@ module _ (n : ℕ) (fs : List Alternative) (inside : Each (In n) fs) where
   all-final σ m z =
       each-map₃ fs
       (λ a i f g. le-trans (le-trans (ask-mono (a .c) (least-under σ m (a .y))) f)
-      (not-lt→le (λ l. tally-zero (gap (least n fs) σ) n z (a .x) (i .0) (lt→ltb (at (least n fs) (a .x)) (σ (a .x)) l))))
+      (by-contra _ _ (λ l. tally-zero (gap (least n fs) σ) n z (a .x) (i .0) (lt→ltb (at (least n fs) (a .x)) (σ (a .x)) l))))
       inside m m
-    where
-      not-lt→le : {u v : ℕ} → ¬ (u < v) → v ≤ u
-      not-lt→le h = omega arith
 
   -- where some numbers meet the facts, the least do
   least-meets : (N : ℕ) (σ : ℕ → ℕ) → total σ n ≤ N → Each (Meets σ) fs → Each (Meets (at (least n fs))) fs
@@ -331,15 +322,15 @@ settled-meets : (fs : List Alternative) (s : List ℕ) → T (settled fs s) → 
 unfolding settled
 settled-meets [] s t = tt
 settled-meets (a ∷ more) s t = (
-  leb→le (ask (at s (a .y)) (a .c)) (at s (a .x)) (both-left (met s a) (settled more s) t),
-  settled-meets more s (both-right (met s a) (settled more s) t),
+  leb→le (ask (at s (a .y)) (a .c)) (at s (a .x)) (and-yes (met s a) (settled more s) t .0),
+  settled-meets more s (and-yes (met s a) (settled more s) t .1),
 )
 
 meets-settled : (fs : List Alternative) (s : List ℕ) → Each (Meets (at s)) fs → T (settled fs s)
 unfolding settled
 meets-settled [] s h = tt
 meets-settled (a ∷ more) s h =
-    both (met s a) (settled more s) (le→leb (ask (at s (a .y)) (a .c)) (at s (a .x)) (h .0)) (meets-settled more s (h .1))
+    yes-and (met s a) (settled more s) (le→leb (ask (at s (a .y)) (a .c)) (at s (a .x)) (h .0)) (meets-settled more s (h .1))
 
 -- the decision: the rounds settle exactly where some numbers meet the facts
 pub sound-right : (n : ℕ) (fs : List Alternative) → T (soundBy n fs) → Each (Meets (at (least n fs))) fs

@@ -8,12 +8,12 @@ use native.Mathlib.Nat.{le-of-suc-le-suc, not-suc-le-zero}
 use native.Mathlib.Omega.{arith}
 use lib.Dec.{T, ltb, ltb→lt, lt→ltb}
 use lib.ListN.{length, getD, drop}
+use Rattle.laws.proofs.Tests.{never}
 use Rattle.meaning.specs.Limits.{onwardMark}
 use Rattle.meaning.specs.Problem.{Alternative, opposite, Clause}
 use Rattle.meaning.specs.Plain.{product}
 use Rattle.meaning.specs.Search.{Standing, Row, mark, cycle, Outcome, found, closed, stopped, taking, facts, enter, look, later, andThen, branch, again, firstDead, search, resume, past, next, sideways}
 use Rattle.meaning.proofs.Carry.{later-none, andThen-later}
-use Rattle.meaning.proofs.Booleans.{never}
 
 -- the facts after positions 0 to j of a clause
 abbrev beyond : ℕ → Clause → List Alternative → List Alternative

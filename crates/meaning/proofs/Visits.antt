@@ -9,10 +9,10 @@ use native.Mathlib.Nat.{le-refl, le-trans, suc-mul, zero-mul, le-of-suc-le-suc, 
 use native.Mathlib.Decide.{decLt}
 use native.Mathlib.Omega.{arith}
 use lib.ListN.{length}
+use Rattle.laws.proofs.Tests.{is-true}
 use Rattle.meaning.specs.Limits.{onwardMark}
 use Rattle.meaning.specs.Problem.{Alternative, opposite, Clause}
 use Rattle.meaning.specs.Search.{Standing, taking, facts, Row, mark, Outcome, found, closed, stopped, enter, look, later, andThen, branch, again, firstDead, search, resume, Decides}
-use Rattle.meaning.proofs.Booleans.{is-true}
 use Rattle.meaning.proofs.Carry.{extend, carry}
 use Rattle.meaning.proofs.First.{stop-place}
 

@@ -9,6 +9,8 @@ use lib.Dec.{T, le→leb}
 use lib.IntN.{ℤ, pos, _-ℤ_}
 use lib.Signed.{leZ}
 use lib.ListN.{length, replicate, length-append, List·getD-append}
+use mir.Facts.{yes-and, and-yes}
+use Rattle.laws.proofs.Tests.{is-true, never}
 use Rattle.meaning.specs.declared.Answer.{Answer}
 use Rattle.meaning.specs.declared.Answer.the-variants.{Plan, None, Stopped, Refused as RefusedCall}
 use Rattle.meaning.specs.declared.Verdict.the-variants.{Yes}
@@ -20,7 +22,6 @@ use Rattle.meaning.specs.Search.{found, closed}
 use Rattle.meaning.specs.Reasons.{isReading, Written}
 use Rattle.meaning.specs.Screen.{Lent, Input, clausesOf, problemTests, problemRefusal, Screen, cleared, listed, shown, screen, Shows}
 use Rattle.meaning.specs.Verdicts.{verdict, reasonsVerdict, some, keeps, timetableRefusal, timetableVerdict}
-use Rattle.meaning.proofs.Booleans.{both, both-left, both-right, is-true, never}
 use Rattle.meaning.proofs.Settling.{Each, In}
 use Rattle.meaning.proofs.Accepted.{Accepted, Every, all-passed, none-failed, passed-both}
 use Rattle.meaning.proofs.Demands.{kept-holds}
@@ -51,12 +52,12 @@ of-some t (a ∷ more) (inr h) = go (satisfied t a) (of-some t more h)
 pub keeps-of : (t : Timetable) (cs : List Clause) → T (keeps t cs) → Keeps t cs
 unfolding keeps
 keeps-of t [] h = tt
-keeps-of t (c ∷ cs) h = (some-of t c (both-left (some t c) (keeps t cs) h), keeps-of t cs (both-right (some t c) (keeps t cs) h))
+keeps-of t (c ∷ cs) h = (some-of t c (and-yes (some t c) (keeps t cs) h .0), keeps-of t cs (and-yes (some t c) (keeps t cs) h .1))
 
 pub of-keeps : (t : Timetable) (cs : List Clause) → Keeps t cs → T (keeps t cs)
 unfolding keeps
 of-keeps t [] h = tt
-of-keeps t (c ∷ cs) h = both (some t c) (keeps t cs) (of-some t c (h .0)) (of-keeps t cs (h .1))
+of-keeps t (c ∷ cs) h = yes-and (some t c) (keeps t cs) (of-some t c (h .0)) (of-keeps t cs (h .1))
 
 -- ---- what a yes means
 yes-both : (r : ℕ) (b : Bool) → verdict r b ≡ Yes → (r ≡ 0) × T b

@@ -2,20 +2,20 @@
 use mathlib.Core.Path.{_≡_, sym, ap, _∙_, subst}
 use mathlib.Core.Bool.{Bool, true}
 use mathlib.Core.List.{List, map}
-use Prim.Native.Nat.{ℕ, _+_, _<_}
+use Prim.Native.Nat.{ℕ, _+_}
 use native.Mathlib.Omega.{arith}
 use lib.IntN.{pos, negℤ}
 use lib.ListN.{length, take}
 use Rattle.meaning.specs.Plain.{chosen}
 use Rattle.meaning.specs.Decision.{sound, least, latestOf}
 use Rattle.problem.specs.declared.Problem.{Problem}
-use Rattle.problem.specs.Arcs.{at, arc, Arc}
+use Rattle.problem.specs.Arcs.{at, arc, Known}
 use Rattle.problem.specs.Laid.{arcs, clausesIn, Laid}
 use Rattle.facts.specs.Tests.{places, Tests}
 use Rattle.held.specs.declared.Facts.{Facts}
 use Rattle.held.specs.Held.{held, factsIn, Ready}
 use Rattle.search.specs.Standing.{chosenFacts, Inside}
-use Rattle.search.proofs.Numbers.{chosen-facts, chosen-arcs}
+use Rattle.search.proofs.Numbers.{chosen-facts, chosen-known}
 use Rattle.search.proofs.Steps.{stands}
 
 module _ (p : Problem) (laid : Laid p) (picks : List ℕ) (inside : Inside p picks (p .m)) (long : length picks ≡ 32) (f : Facts) (is : held f ≡ chosenFacts (p .starts) 0 (take (p .m) picks)) where
@@ -27,7 +27,7 @@ module _ (p : Problem) (laid : Laid p) (picks : List ℕ) (inside : Inside p pic
       record {
         free = omega (arith, laid .few);
         fits = omega arith;
-        within = record { each = subst (λ (L : List ℕ). (i : ℕ) → i < length L → Arc (arcs p) (p .n) (at L i)) (sym is) (chosen-arcs p laid 0 (p .m) (take (p .m) picks) (omega arith) (stands p laid picks (p .m) inside long) .each); few = omega arith };
+        within = record { known = subst (Known (arcs p) (p .n)) (sym is) (chosen-known p laid 0 (p .m) (take (p .m) picks) (omega arith) (stands p laid picks (p .m) inside long)); few = omega arith };
       }
 
   -- the times of a sound selection are its latest timetable

@@ -7,10 +7,10 @@ use borrow.Author.Tests.{lt-leb, le-leb}
 use lib.Dec.{leb, leb→le}
 use lib.IntN.{ℤ}
 use lib.ListN.{length}
+use mir.Facts.{and-yes}
 use Rattle.meaning.specs.Limits.{mostAllowance}
 use Rattle.meaning.specs.Screen.{Input, problemTests, planTests, firstFailed, problemRefusal, refusal}
 use Rattle.meaning.proofs.Accepted.{Passed, all-passed, front-first, passed-over, plan-problem}
-use Rattle.meaning.proofs.Booleans.{both-left, both-right}
 use Rattle.planner.specs.Call.{call}
 
 module _ (i : Input) where
@@ -54,8 +54,8 @@ room-of i e =
     let p : Passed (planTests i) = all-passed 7 (planTests i) (omega arith) (sym (left i (plan-problem i e)) ∙ e) in
     record {
       allowed = leb→le (i .allowance) mostAllowance (p .0);
-      times = leb→le (i .lent .n) (i .times) (both-left (leb (i .lent .n) (i .times)) (leb (length (i .lent .counts)) (i .picks)) (p .1 .0));
-      picks = leb→le (length (i .lent .counts)) (i .picks) (both-right (leb (i .lent .n) (i .times)) (leb (length (i .lent .counts)) (i .picks)) (p .1 .0));
+      times = leb→le (i .lent .n) (i .times) (and-yes (leb (i .lent .n) (i .times)) (leb (length (i .lent .counts)) (i .picks)) (p .1 .0) .0);
+      picks = leb→le (length (i .lent .counts)) (i .picks) (and-yes (leb (i .lent .n) (i .times)) (leb (length (i .lent .counts)) (i .picks)) (p .1 .0) .1);
     }
 
 -- the slices as they were lent, and as they are once filled, are as long

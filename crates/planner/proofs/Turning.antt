@@ -8,6 +8,7 @@ use types.Run.{OneOf, miss}
 use denote.Enum.Declared.{tagOf}
 use lib.IntN.{ℤ}
 use lib.ListN.{length, replicate}
+use Rattle.laws.proofs.Tests.{is-true}
 use Rattle.meaning.specs.declared.Answer.{Answer}
 use Rattle.meaning.specs.declared.Answer.the-variants.{Stopped}
 use Rattle.meaning.specs.Limits.{mostAllowance, blankByte, noTime}
@@ -15,7 +16,6 @@ use Rattle.meaning.specs.Plain.{chosen, rank, timesOf}
 use Rattle.meaning.specs.Decision.{sound}
 use Rattle.meaning.specs.Search.{Outcome, search}
 use Rattle.meaning.specs.Screen.{Shows}
-use Rattle.meaning.proofs.Booleans.{is-true}
 use Rattle.meaning.proofs.Deciding.{sound-decides}
 use Rattle.meaning.proofs.First.{plan-first}
 use Rattle.meaning.proofs.Rows.{rows-few}

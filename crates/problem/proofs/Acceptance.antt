@@ -1,56 +1,27 @@
 -- An accepted input, as a problem by value, reads as the clauses that were lent. Assumes nothing.
 use mathlib.Core.Path.{_≡_, refl, sym, ap, _∙_}
 use mathlib.Core.List.{List, [], _∷_}
-use Prim.Native.Nat.{ℕ, zero, suc, _+_, _-_, _*_, _/_, _%_, _<_, _≤_}
+use Prim.Native.Nat.{ℕ, zero, suc, _+_, _-_, _*_, _/_, _<_, _≤_}
 use native.Mathlib.Omega.{arith}
-use lib.Dec.{T, leb, eqb, leb→le, eqb→eq}
 use lib.IntN.{ℤ, pos, natAbs, subℕ, _+ℤ_}
 use lib.ListN.{length, getD, take, drop}
 use lib.Seq.{drop-cons, ext-getD}
-use Rattle.meaning.specs.Limits.{mostEvents, mostClauses, mostInClause, mostAlternatives, mostBound, oppositeFrom}
+use Rattle.meaning.specs.Limits.{mostClauses, mostInClause, mostAlternatives, mostBound, oppositeFrom}
 use Rattle.meaning.specs.Problem.{Alternative, opposite}
 use Rattle.meaning.specs.Plain.{nowhere}
-use Rattle.meaning.specs.Screen.{Lent, alternatives, clausesOf, stepped, events, bounds, isEvent, isBound, problemTests, problemRefusal}
-use Rattle.meaning.proofs.Booleans.{both-left, both-right}
-use Rattle.meaning.proofs.Accepted.{all-passed, parted-length}
-use Rattle.problem.specs.declared.Problem.{Problem}
+use Rattle.meaning.specs.Screen.{Lent, alternatives, clausesOf, events, bounds}
+use Rattle.meaning.proofs.Accepted.{Passes, parted-length, alternatives-count}
 use Rattle.problem.specs.Arcs.{Net, at, bias, head, tail, bound, arc, Arc, arcsFrom}
 use Rattle.problem.specs.Laid.{arcs, clausesIn, Laid}
 use Rattle.problem.specs.Reads.{Reads}
 use Rattle.problem.proofs.Laying.{clauses-length, clause-of}
 use Rattle.problem.specs.Loaded.{table, biased, placed, problemOf, noProblem, loaded, Loadable, Holds}
-use Rattle.problem.proofs.Triples.{alternativeAt, alternatives-count, alternative-at, events-at, bounds-at}
+use Rattle.problem.proofs.Triples.{alternativeAt, alternative-at, events-at, bounds-at}
 use Rattle.problem.proofs.Counts.{count-rises, count-under, count-ends, parted-at}
 use Rattle.problem.proofs.Lifting.{Lifts, lifts, lifts-opposite, unbiased}
 use Rattle.problem.proofs.Tables.{placed-at, table-at, table-turned, table-length}
 
--- ---- the tests that an accepted input passes
-pub record Passes (l : Lent) : Type 0 where
-  pub some : 1 ≤ l .n
-  pub most : l .n ≤ mostEvents
-  pub few : length (l .counts) ≤ mostClauses
-  pub whole : length (l .triples) % 3 ≡ 0
-  pub all : length (l .triples) ≤ 3 * mostAlternatives
-  pub steps : T (stepped (length (l .triples) / 3) 0 (l .counts))
-  pub events : T (events (isEvent (l .n)) (l .triples))
-  pub bounds : T (bounds isBound (l .triples))
-
-pub passes : (l : Lent) → problemRefusal l ≡ 0 → Passes l
-unfolding problemRefusal problemTests
-passes l e =
-    let p = all-passed 1 _ (omega arith) e in
-    let L : ℕ = length (l .triples) in
-    record {
-      some = leb→le 1 (l .n) (both-left (leb 1 (l .n)) (leb (l .n) mostEvents) (p .0));
-      most = leb→le (l .n) mostEvents (both-right (leb 1 (l .n)) (leb (l .n) mostEvents) (p .0));
-      few = leb→le (length (l .counts)) mostClauses (p .1 .0);
-      whole = eqb→eq (L % 3) 0 (both-left (eqb (L % 3) 0) (leb L (3 * mostAlternatives)) (p .1 .1 .0));
-      all = leb→le L (3 * mostAlternatives) (both-right (eqb (L % 3) 0) (leb L (3 * mostAlternatives)) (p .1 .1 .0));
-      steps = p .1 .1 .1 .0;
-      events = p .1 .1 .1 .1 .0;
-      bounds = p .1 .1 .1 .1 .1 .0;
-    }
-
+-- ---- what the code asks of an accepted input
 -- what `load` asks
 pub loadable : (l : Lent) → Passes l → Loadable (l .triples) (length (l .triples) / 3)
 loadable l p =

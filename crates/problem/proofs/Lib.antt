@@ -5,3 +5,4 @@ pub mod Lifting
 pub mod Tables
 pub mod Laying
 pub mod Acceptance
+pub mod Knowing

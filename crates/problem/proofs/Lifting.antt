@@ -3,8 +3,8 @@ use mathlib.Core.Path.{_≡_, refl, sym, ap, _∙_}
 use Prim.Native.Nat.{ℕ, zero, suc, _+_, _-_, _*_, _<_, _≤_}
 use native.Mathlib.Omega.{arith}
 use lib.IntN.{ℤ, pos, negsuc, natAbs, negℤ, predℤ, subℕ, _+ℤ_, _-ℤ_, +ℤ-negℤ-cancel}
+use Rattle.laws.proofs.Differences.{above-is}
 use Rattle.meaning.specs.Limits.{mostBound}
-use Rattle.lent.proofs.Difference.{difference-from}
 use Rattle.problem.specs.Arcs.{bias}
 
 -- the natural number that a bound or an opposite's bound is with the bias added
@@ -15,17 +15,17 @@ pub record Lifts (c : ℤ) : Type 0 where
 
 pub lifts : (c : ℤ) → natAbs c ≤ mostBound → Lifts c
 lifts (pos n) h = record { b = n + bias; is = refl; small = omega arith }
-lifts (negsuc n) h = record { b = bias - suc n; is = difference-from bias (suc n) (omega arith); small = omega arith }
+lifts (negsuc n) h = record { b = bias - suc n; is = above-is bias (suc n) (omega arith); small = omega arith }
 
 -- a bound's and its opposite's add up to 2 · mostBound + 1
 pub lifts-opposite : (c : ℤ) → natAbs c ≤ mostBound → predℤ (negℤ c) +ℤ pos bias ≡ pos (2 * mostBound + 1 - natAbs (c +ℤ pos bias))
 lifts-opposite (pos zero) h = refl
 lifts-opposite (pos (suc n)) h =
     let q : bias - suc (suc n) ≡ 2 * mostBound + 1 - (suc n + bias) = omega arith in
-    difference-from bias (suc (suc n)) (omega arith) ∙ ap pos q
+    above-is bias (suc (suc n)) (omega arith) ∙ ap pos q
 lifts-opposite (negsuc n) h =
     let q : n + bias ≡ 2 * mostBound + 1 - (bias - suc n) = omega arith in
-    ap pos q ∙ ap (λ (z : ℤ). pos (2 * mostBound + 1 - natAbs z)) (sym (difference-from bias (suc n) (omega arith)))
+    ap pos q ∙ ap (λ (z : ℤ). pos (2 * mostBound + 1 - natAbs z)) (sym (above-is bias (suc n) (omega arith)))
 
 -- the bias taken off again
 pub unbiased : (c : ℤ) (l : Lifts c) → subℕ (natAbs (c +ℤ pos bias)) bias ≡ c

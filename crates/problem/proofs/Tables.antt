@@ -10,7 +10,8 @@ use Rattle.meaning.specs.Limits.{mostAlternatives, oppositeFrom}
 use Rattle.meaning.specs.Problem.{Alternative, opposite}
 use Rattle.meaning.specs.Plain.{nowhere}
 use Rattle.meaning.proofs.Settling.{zero-at}
-use Rattle.lent.proofs.Writing.{write-more, drop-replicate}
+use Rattle.laws.proofs.Lists.{drop-replicate}
+use Rattle.lent.proofs.Writing.{write-more}
 use Rattle.problem.specs.Arcs.{at}
 use Rattle.problem.specs.Loaded.{placed, table}
 

@@ -2,18 +2,18 @@
 use mathlib.Core.Path.{_≡_, refl, ap, _∙_}
 use mathlib.Core.Bool.{Bool, true, _&&_}
 use mathlib.Core.List.{List, [], _∷_}
-use Prim.Native.Nat.{ℕ, zero, suc, _+_, _*_, _/_, _<_, _≤_}
+use Prim.Native.Nat.{ℕ, zero, suc, _+_, _*_, _<_, _≤_}
 use native.Mathlib.Nat.{not-suc-le-zero}
 use native.Mathlib.Omega.{arith}
-use lib.Dec.{T, leb, ltb, leb→le, ltb→lt}
-use lib.IntN.{ℤ, pos, negsuc, natAbs}
+use lib.Dec.{T}
+use lib.IntN.{ℤ, pos, natAbs}
 use lib.ListN.{length, getD, drop, drop-of-length-le}
 use lib.Seq.{drop-cons}
 use Rattle.meaning.specs.Limits.{mostBound}
 use Rattle.meaning.specs.Problem.{Alternative}
 use Rattle.meaning.specs.Plain.{nowhere}
 use Rattle.meaning.specs.Screen.{alternatives, events, bounds, isEvent, isBound}
-use Rattle.meaning.proofs.Booleans.{both-left, both-right}
+use Rattle.meaning.proofs.Accepted.{Event, first-events, first-bound}
 
 -- triple j of the list, as the alternative of a number
 abbrev triple : ℕ → List ℤ → ℕ → Alternative
@@ -23,13 +23,6 @@ abbrev pub alternativeAt : List ℤ → ℕ → Alternative
 alternativeAt ts j = triple j ts j
 
 -- ---- the alternatives
-pub alternatives-count : (i : ℕ) (ts : List ℤ) → length (alternatives i ts) ≡ length ts / 3
-unfolding alternatives
-alternatives-count i [] = refl
-alternatives-count i (x ∷ []) = omega arith
-alternatives-count i (x ∷ (y ∷ [])) = omega arith
-alternatives-count i (x ∷ (y ∷ (c ∷ more))) = omega (arith, alternatives-count (suc i) more)
-
 numbered-at : (i j : ℕ) (ts : List ℤ) → j * 3 + 2 < length ts → getD (alternatives i ts) j nowhere ≡ triple (i + j) ts j
 unfolding alternatives
 numbered-at i j [] h = absurd (not-suc-le-zero h)
@@ -49,36 +42,26 @@ pub alternative-at : (j : ℕ) (ts : List ℤ) → j * 3 + 2 < length ts → get
 alternative-at j ts h = let z : 0 + j ≡ j = omega arith in numbered-at 0 j ts h ∙ ap (λ (k : ℕ). triple k ts j) z
 
 -- ---- what the tests say of each
--- a number of an event below n
-abbrev pub Event : ℕ → ℤ → Type 0
-Event n x = (k : ℕ) × ((x ≡ pos k) × (k < n))
-
-is-event : (n : ℕ) (x : ℤ) → T (isEvent n x) → Event n x
-is-event n (pos k) t = (k, (refl, ltb→lt k n (both-right (leb 0 k) (ltb k n) t)))
-is-event n (negsuc k) t = absurd t
-
 pub events-at : (n : ℕ) (ts : List ℤ) → T (events (isEvent n) ts) → (j : ℕ) → j * 3 + 2 < length ts → Event n (getD ts (j * 3) (pos 0)) × Event n (getD ts (j * 3 + 1) (pos 0))
 unfolding events
 events-at n [] t j h = absurd (not-suc-le-zero h)
 events-at n (x ∷ []) t j h = absurd (omega arith)
 events-at n (x ∷ (y ∷ [])) t j h = absurd (omega arith)
-events-at n (x ∷ (y ∷ (c ∷ more))) t zero h =
-    let both = both-left (isEvent n x && isEvent n y) (events (isEvent n) more) t in
-    (is-event n x (both-left (isEvent n x) (isEvent n y) both), is-event n y (both-right (isEvent n x) (isEvent n y) both))
+events-at n (x ∷ (y ∷ (c ∷ more))) t zero h = first-events n x y c more t .0
 events-at n (x ∷ (y ∷ (c ∷ more))) t (suc j) h =
     let first : suc j * 3 ≡ suc (suc (suc (j * 3))) = omega arith in
     let second : suc j * 3 + 1 ≡ suc (suc (suc (j * 3 + 1))) = omega arith in
-    rw (second, first) (events-at n more (both-right (isEvent n x && isEvent n y) (events (isEvent n) more) t) j (omega arith))
+    rw (second, first) (events-at n more (first-events n x y c more t .1) j (omega arith))
 
 pub bounds-at : (ts : List ℤ) → T (bounds isBound ts) → (j : ℕ) → j * 3 + 2 < length ts → natAbs (getD ts (j * 3 + 2) (pos 0)) ≤ mostBound
 unfolding bounds
 bounds-at [] t j h = absurd (not-suc-le-zero h)
 bounds-at (x ∷ []) t j h = absurd (omega arith)
 bounds-at (x ∷ (y ∷ [])) t j h = absurd (omega arith)
-bounds-at (x ∷ (y ∷ (c ∷ more))) t zero h = leb→le (natAbs c) mostBound (both-left (isBound c) (bounds isBound more) t)
+bounds-at (x ∷ (y ∷ (c ∷ more))) t zero h = first-bound x y c more t .0
 bounds-at (x ∷ (y ∷ (c ∷ more))) t (suc j) h =
     let third : suc j * 3 + 2 ≡ suc (suc (suc (j * 3 + 2))) = omega arith in
-    rw third (bounds-at more (both-right (isBound c) (bounds isBound more) t) j (omega arith))
+    rw third (bounds-at more (first-bound x y c more t .1) j (omega arith))
 
 -- ---- a step of a test, and its end
 drop-three : (ts : List ℤ) (i : ℕ) → i + 2 < length ts → drop i ts ≡ getD ts i (pos 0) ∷ (getD ts (i + 1) (pos 0) ∷ (getD ts (i + 2) (pos 0) ∷ drop (i + 3) ts))

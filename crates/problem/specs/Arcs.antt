@@ -1,9 +1,8 @@
 -- A problem in the numbers that the tests use: arcs in three lists of naturals, by their numbers, j for alternative j and 64 + j for its opposite.
 -- A bound c stands as c + bias; a time t as the minutes −t before closing. Definitions only.
-use mathlib.Core.Path.{_≡_}
 use mathlib.Core.List.{List, [], _∷_}
 use Prim.Native.Nat.{ℕ, zero, suc, _+_, _*_, _<_}
-use lib.IntN.{ℤ, subℕ}
+use lib.IntN.{subℕ}
 use lib.ListN.{length, getD}
 use Rattle.meaning.specs.Limits.{mostBound}
 use Rattle.meaning.specs.Problem.{Alternative, Clause}
@@ -46,6 +45,10 @@ pub record Arc (g : Net) (n j : ℕ) : Type 0 where
   pub in-head : head g j < n
   pub in-tail : tail g j < n
   pub small : bound g j < 2 * bias
+
+-- each number of the list is an arc's
+pub record Known (g : Net) (n : ℕ) (L : List ℕ) : Type 0 where
+  pub each : (i : ℕ) → i < length L → Arc g n (at L i)
 
 -- k arcs from number j on, as a clause
 unfoldable pub arcsFrom : Net → ℕ → ℕ → Clause

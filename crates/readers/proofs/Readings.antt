@@ -10,11 +10,11 @@ use native.Mathlib.Omega.{arith}
 use borrow.Author.Tests.{lt-ltb, le-ltb, le-leb, lt-leb}
 use lib.ListN.{length, getD, drop, drop-of-length-le, List·getD-eq-default}
 use lib.Seq.{drop-cons}
-use Rattle.lent.proofs.Difference.{lt-or-ge}
+use Rattle.laws.proofs.Tests.{never}
+use Rattle.laws.proofs.Order.{lt-or-ge}
 use Rattle.meaning.specs.Limits.{rowBytes}
 use Rattle.meaning.specs.Problem.{Alternative, opposite, Clause}
 use Rattle.meaning.specs.Reasons.{filled, loops, numbers, cycleOver, Kind, ring, onward, bad, deadAt, kind, cycleRows, front, reading, andRead, eachRead, read, blank, rowsOf, ends, isReading}
-use Rattle.meaning.proofs.Booleans.{never}
 use Rattle.meaning.proofs.Reading.{down, read-kind}
 use Rattle.problem.specs.declared.Problem.{Problem}
 use Rattle.problem.specs.Arcs.{Net, arc, arcsFrom}

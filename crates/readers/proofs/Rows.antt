@@ -9,7 +9,7 @@ use native.Mathlib.Omega.{arith}
 use lib.Dec.{eqb}
 use lib.ListN.{length, getD, take, drop, length-drop, List·getD-eq-default}
 use lib.Seq.{drop-drop, length-take-le}
-use Rattle.lent.proofs.Difference.{lt-or-ge}
+use Rattle.laws.proofs.Order.{lt-or-ge}
 use Rattle.meaning.specs.Limits.{blankByte}
 use Rattle.meaning.specs.Reasons.{blank, cut, rowsOf, allBlank}
 

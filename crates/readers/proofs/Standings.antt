@@ -1,22 +1,15 @@
 -- The facts of a standing in their buffer: what one more number in front of them makes of them. Assumes nothing.
 use mathlib.Core.Path.{_≡_, sym, ap, subst}
 use mathlib.Core.List.{List, _∷_, map}
-use Prim.Native.Nat.{ℕ, zero, suc, _+_, _-_, _<_, _≤_}
-use native.Mathlib.Nat.{le-of-suc-le-suc}
+use Prim.Native.Nat.{ℕ, _+_, _-_, _<_, _≤_}
 use native.Mathlib.Omega.{arith}
 use lib.ListN.{length, drop, set, length-drop}
 use Rattle.lent.proofs.Writing.{put-before}
 use Rattle.problem.specs.declared.Problem.{Problem}
-use Rattle.problem.specs.Arcs.{at, arc, Arc}
+use Rattle.problem.specs.Arcs.{arc, Arc, Known}
 use Rattle.problem.specs.Laid.{arcs}
-use Rattle.readers.specs.Standing.{room, Known, factsFrom, Decided}
-
-known-more : (p : Problem) (v : ℕ) (L : List ℕ) → Arc (arcs p) (p .n) v → Known p L → Known p (v ∷ L)
-known-more p v L a k = record { each = at-each }
-  where
-    at-each : (i : ℕ) → i < suc (length L) → Arc (arcs p) (p .n) (at (v ∷ L) i)
-    at-each zero h = a
-    at-each (suc i) h = k .each i (le-of-suc-le-suc h)
+use Rattle.problem.proofs.Knowing.{known-more}
+use Rattle.readers.specs.Standing.{room, factsFrom, Decided}
 
 module _ (p : Problem) (buffer : List ℕ) (size : length buffer ≡ room) where
   -- nothing is decided yet
@@ -38,7 +31,7 @@ module _ (p : Problem) (buffer : List ℕ) (size : length buffer ≡ room) where
         record {
           within = omega (arith, d .within);
           few = omega (arith, d .few);
-          known = subst (λ (L : List ℕ). Known p L) (sym (put-before buffer from v (omega (arith, d .few)) (omega (arith, d .within)))) (known-more p v (drop from buffer) a (d .known));
+          known = subst (Known (arcs p) (p .n)) (sym (put-before buffer from v (omega (arith, d .few)) (omega (arith, d .within)))) (known-more (arcs p) (p .n) v (drop from buffer) a (d .known));
         }
 
 pub decided-later : (p : Problem) (buffer : List ℕ) (from i j : ℕ) → i ≤ j → Decided p i buffer from → Decided p j buffer from

@@ -13,14 +13,13 @@ use lib.IntN.{ℤ, pos, subℕ, _+ℤ_}
 use lib.Signed.{ltZ}
 use lib.ListN.{length, drop, drop-of-length-le}
 use lib.Seq.{drop-cons}
-use Rattle.meaning.proofs.Booleans.{never}
-use Rattle.meaning.proofs.Deciding.{Minus, below, above, minus, sub-add}
+use Rattle.laws.proofs.Differences.{Minus, below, above, minus, sub-add}
+use Rattle.laws.proofs.Tests.{never}
 use Rattle.meaning.specs.Problem.{Alternative}
 use Rattle.meaning.specs.Reasons.{named, given, walk, loops}
 use Rattle.problem.specs.declared.Problem.{Problem}
-use Rattle.problem.specs.Arcs.{Net, bias, at, head, tail, bound, arc, Arc}
+use Rattle.problem.specs.Arcs.{Net, bias, at, head, tail, bound, arc, Arc, Known}
 use Rattle.problem.specs.Laid.{arcs}
-use Rattle.readers.specs.Standing.{Known}
 use Rattle.readers.specs.Leaves.{isIn}
 
 -- the fact with a number is the arc of that number, where the number is a fact's
@@ -48,7 +47,7 @@ found (j ∷ more) b e = by (eqb b j) refl e (λ h. found more b h)
     by true q e f = record { place = 0; below = omega arith; is = sym (eqb-true b j q) }
     by false q e f = let w = f e in record { place = suc (w .place); below = omega (arith, w .below); is = w .is }
 
-pub known-arc : (p : Problem) (L : List ℕ) (b : ℕ) → Known p L → isIn L b ≡ true → Arc (arcs p) (p .n) b
+pub known-arc : (p : Problem) (L : List ℕ) (b : ℕ) → Known (arcs p) (p .n) L → isIn L b ≡ true → Arc (arcs p) (p .n) b
 known-arc p L b k e = let w = found L b e in subst (λ (j : ℕ). Arc (arcs p) (p .n) j) (w .is) (k .each (w .place) (w .below))
 
 -- a sum of n bounds, with one more

@@ -1,21 +1,17 @@
 -- A standing as the reader keeps it: the arc numbers of its facts in a buffer that is filled from the back, the newest first. Definitions only.
 use mathlib.Core.Path.{_≡_}
 use mathlib.Core.List.{List, map}
-use Prim.Native.Nat.{ℕ, _+_, _<_, _≤_}
-use lib.ListN.{length, drop}
+use Prim.Native.Nat.{ℕ, _+_, _≤_}
+use lib.ListN.{drop}
 use Rattle.meaning.specs.Limits.{mostAlternatives}
 use Rattle.meaning.specs.Problem.{Alternative}
 use Rattle.problem.specs.declared.Problem.{Problem}
-use Rattle.problem.specs.Arcs.{at, arc, Arc}
+use Rattle.problem.specs.Arcs.{at, arc, Known}
 use Rattle.problem.specs.Laid.{arcs}
 
 -- one more than there are alternatives, so that the alternative of a dead clause has a place before them
 abbrev pub room : ℕ
 room = mostAlternatives + 1
-
--- each number is that of an arc of the problem
-pub record Known (p : Problem) (numbers : List ℕ) : Type 0 where
-  pub each : (i : ℕ) → i < length numbers → Arc (arcs p) (p .n) (at numbers i)
 
 -- the facts that stand in the buffer from a place on
 abbrev pub factsFrom : Problem → List ℕ → ℕ → List Alternative
@@ -25,7 +21,7 @@ factsFrom p buffer from = map (arc (arcs p)) (drop from buffer)
 pub record Decided (p : Problem) (j : ℕ) (buffer : List ℕ) (from : ℕ) : Type 0 where
   pub within : from ≤ room
   pub few : room ≤ from + j
-  pub known : Known p (drop from buffer)
+  pub known : Known (arcs p) (p .n) (drop from buffer)
 
 -- k clauses are chosen and `left` are to come
 pub record Stands (p : Problem) (k left : ℕ) (buffer : List ℕ) (from : ℕ) : Type 0 where

@@ -1,5 +1,6 @@
 // The two readers: 01, "The list of reasons". Each is a witness beside the search and shares no code with it: the one reads a list of
 // reasons down one clause at a time, the other tests a timetable against every clause.
+use lent::wide;
 use meaning::Verdict;
 use problem::ALTERNATIVES;
 use problem::BIAS;
@@ -15,10 +16,10 @@ ghost use Rattle.meaning.specs.Problem.{satisfied};
 ghost use Rattle.meaning.specs.Plain.{timesOf};
 ghost use Rattle.meaning.specs.Reasons.{numbers, blank, loops, cycleOver, kind, read, rowsOf, isReading};
 ghost use Rattle.meaning.specs.Verdicts.{some, keeps, reasonsVerdict, timetableVerdict};
-ghost use Rattle.problem.specs.Arcs.{bias, arc, Arc};
+ghost use Rattle.problem.specs.Arcs.{bias, arc, Arc, Known};
 ghost use Rattle.problem.specs.Laid.{arcs, clauseOf, clausesFrom, clausesIn, Laid};
 ghost use Rattle.problem.specs.Reads.{given};
-ghost use Rattle.readers.specs.Standing.{room, Known, factsFrom, Stands};
+ghost use Rattle.readers.specs.Standing.{room, factsFrom, Stands};
 ghost use Rattle.readers.specs.Leaves.{isIn, rowAt, kindOf, deadRows, Answers};
 
 // How many bytes a row has.
@@ -49,13 +50,6 @@ enum Mark {
     Onward,
     Bad,
     Dead(usize),
-}
-
-// A byte as an index.
-fn wide(x: u8) -> usize
-    ensures { λ r. ⌜ r ≡ x ⌝ }
-{
-    x as usize
 }
 
 // Whether a number is one of the facts.
@@ -138,7 +132,7 @@ fn mark_at(list: &[u8], row: usize) -> Mark
 
 // Whether the numbers, each a fact, are the arcs of a closed walk whose bounds sum below 0.
 fn is_cycle(p: Problem, facts: &[u8], walked: &[u8]) -> bool
-    requires { ⌜ Known p (now facts) × (length (now walked) ≤ rowBytes) ⌝ }
+    requires { ⌜ Known (arcs p) (p .n) (now facts) × (length (now walked) ≤ rowBytes) ⌝ }
     ensures { λ r. ⌜ r ≡ loops (map (arc (arcs p)) (now (facts .entry))) (now (walked .entry)) ⌝ }
 {
     if walked.len() == 0 {
@@ -173,7 +167,7 @@ fn is_cycle(p: Problem, facts: &[u8], walked: &[u8]) -> bool
 
 // Whether row number `row` of the list is a cycle row over the facts.
 fn cycle_at(p: Problem, facts: [u8; ROOM], from: usize, list: &[u8], row: usize) -> bool
-    requires { ⌜ Known p (drop from facts) × (from ≤ room) ⌝ }
+    requires { ⌜ Known (arcs p) (p .n) (drop from facts) × (from ≤ room) ⌝ }
     ensures { λ r. ⌜ r ≡ cycleOver (factsFrom p facts from) (rowAt (now (list .entry)) row) ⌝ }
 {
     let bytes = row_at(list, row);

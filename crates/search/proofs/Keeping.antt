@@ -9,12 +9,13 @@ use native.Mathlib.Omega.{arith}
 use lib.Dec.{leb, leb→le, le→leb}
 use lib.ListN.{length, take, drop, replicate, length-append, length-take, length-drop, length-map}
 use lib.Seq.{take-at, drop-append-add}
+use Rattle.laws.proofs.Lists.{drop-replicate}
+use Rattle.laws.proofs.Tests.{is-true, is-false}
 use Rattle.meaning.specs.Limits.{rowBytes, blankByte}
 use Rattle.meaning.specs.Problem.{Alternative}
 use Rattle.meaning.specs.Search.{Row, cycle}
 use Rattle.meaning.specs.Reasons.{Writes}
-use Rattle.meaning.proofs.Booleans.{is-true, is-false}
-use Rattle.meaning.proofs.Listing.{written-length, written-append, writes-length, drop-blanks}
+use Rattle.meaning.proofs.Listing.{written-length, written-append, writes-length}
 use Rattle.problem.specs.Arcs.{Net, arc, arcsFrom}
 use Rattle.problem.proofs.Laying.{arcs-length}
 use Rattle.search.proofs.Dead.{arcs-last}
@@ -79,7 +80,7 @@ module _ (room : ℕ) (rows : List Row) (reasons : List ℕ) (x : Row) (row : Li
           rest =
               ap₂ (λ (n : ℕ) (b : List ℕ). drop (n + length row) b) (sym long) (l .is)
               ∙ drop-append-add (l .list) (replicate blanks blankByte) (length row)
-              ∙ drop-blanks (length row) blanks
+              ∙ drop-replicate (length row) blanks blankByte
 
           count : blanks - length row ≡ length (putRow reasons (length rows) row) - length (l .list ++ row)
           count =

@@ -11,10 +11,10 @@ use Rattle.meaning.specs.Problem.{Alternative}
 use Rattle.meaning.specs.Plain.{nowhere, chosen}
 use Rattle.meaning.specs.Search.{Standing, taking, facts}
 use Rattle.problem.specs.declared.Problem.{Problem}
-use Rattle.problem.specs.Arcs.{Net, at, arc, arcsFrom}
+use Rattle.problem.specs.Arcs.{Net, at, arc, arcsFrom, Known}
 use Rattle.problem.specs.Laid.{arcs, sizeOf, clausesFrom, Laid}
 use Rattle.problem.proofs.Laying.{arcs-length, position-below, clause-ends}
-use Rattle.held.proofs.Arcs.{Arcs, arcs-none, arcs-more}
+use Rattle.problem.proofs.Knowing.{known-none, known-more}
 use Rattle.search.specs.Standing.{takes, standingFacts, chosenFacts}
 
 -- ---- the numbers, as the loops go
@@ -81,20 +81,20 @@ module _ (p : Problem) (laid : Laid p) where
       ∙ ap (facts (clausesFrom p (suc k) c) q) (takes-taking (at (p .starts) k) (sizeOf p k) i L (clause-ends p laid k (omega arith)) (rw (arcs-length (arcs p) (at (p .starts) k) (sizeOf p k)) at (s .0)))
 
   -- ---- each number is an arc
-  takes-arcs : (j i : ℕ) (L : List ℕ) → j + i < at (p .starts) (p .m) → Arcs p L → Arcs p (takes j i L)
+  takes-known : (j i : ℕ) (L : List ℕ) → j + i < at (p .starts) (p .m) → Known (arcs p) (p .n) L → Known (arcs p) (p .n) (takes j i L)
   unfolding takes
-  takes-arcs j zero L l h = arcs-more p j L (laid .alternative j (omega arith)) h
-  takes-arcs j (suc i) L l h =
-      takes-arcs (suc j) i ((oppositeFrom + j) ∷ L) (omega arith) (arcs-more p (oppositeFrom + j) L (laid .turned j (omega arith)) h)
+  takes-known j zero L l h = known-more (arcs p) (p .n) j L (laid .alternative j (omega arith)) h
+  takes-known j (suc i) L l h =
+      takes-known (suc j) i ((oppositeFrom + j) ∷ L) (omega arith) (known-more (arcs p) (p .n) (oppositeFrom + j) L (laid .turned j (omega arith)) h)
 
-  pub standing-arcs : (k c : ℕ) (q L : List ℕ) → k + c ≤ p .m → Standing (clausesFrom p k c) q → Arcs p L → Arcs p (standingFacts (p .starts) k q L)
+  pub standing-known : (k c : ℕ) (q L : List ℕ) → k + c ≤ p .m → Standing (clausesFrom p k c) q → Known (arcs p) (p .n) L → Known (arcs p) (p .n) (standingFacts (p .starts) k q L)
   unfolding standingFacts clausesFrom
-  standing-arcs k zero [] L h s a = a
-  standing-arcs k (suc c) [] L h s a = a
-  standing-arcs k zero (i ∷ q) L h s a = absurd s
-  standing-arcs k (suc c) (i ∷ q) L h s a =
-      standing-arcs (suc k) c q (takes (at (p .starts) k) i L) (omega arith) (s .1)
-      (takes-arcs (at (p .starts) k) i L (position-below p laid k (omega arith) i (rw (arcs-length (arcs p) (at (p .starts) k) (sizeOf p k)) at (s .0))) a)
+  standing-known k zero [] L h s a = a
+  standing-known k (suc c) [] L h s a = a
+  standing-known k zero (i ∷ q) L h s a = absurd s
+  standing-known k (suc c) (i ∷ q) L h s a =
+      standing-known (suc k) c q (takes (at (p .starts) k) i L) (omega arith) (s .1)
+      (takes-known (at (p .starts) k) i L (position-below p laid k (omega arith) i (rw (arcs-length (arcs p) (at (p .starts) k) (sizeOf p k)) at (s .0))) a)
 
 -- ---- the numbers of a selection
 pub chosen-front : (starts picks : List ℕ) (m i : ℕ) → i < m → m ≤ length picks → chosenFacts starts i (drop i (take m picks)) ≡ (at starts i + at picks i) ∷ chosenFacts starts (i + 1) (drop (i + 1) (take m picks))
@@ -124,12 +124,12 @@ module _ (p : Problem) (laid : Laid p) where
       (sym (arcs-at (arcs p) (at (p .starts) k) (sizeOf p k) i (rw (arcs-length (arcs p) (at (p .starts) k) (sizeOf p k)) at (s .0))))
       (chosen-facts (suc k) c q (omega arith) (s .1))
 
-  pub chosen-arcs : (k c : ℕ) (q : List ℕ) → k + c ≤ p .m → Standing (clausesFrom p k c) q → Arcs p (chosenFacts (p .starts) k q)
+  pub chosen-known : (k c : ℕ) (q : List ℕ) → k + c ≤ p .m → Standing (clausesFrom p k c) q → Known (arcs p) (p .n) (chosenFacts (p .starts) k q)
   unfolding chosenFacts clausesFrom
-  chosen-arcs k zero [] h s = arcs-none p
-  chosen-arcs k (suc c) [] h s = arcs-none p
-  chosen-arcs k zero (i ∷ q) h s = absurd s
-  chosen-arcs k (suc c) (i ∷ q) h s =
-      arcs-more p (at (p .starts) k + i) (chosenFacts (p .starts) (suc k) q)
+  chosen-known k zero [] h s = known-none (arcs p) (p .n)
+  chosen-known k (suc c) [] h s = known-none (arcs p) (p .n)
+  chosen-known k zero (i ∷ q) h s = absurd s
+  chosen-known k (suc c) (i ∷ q) h s =
+      known-more (arcs p) (p .n) (at (p .starts) k + i) (chosenFacts (p .starts) (suc k) q)
       (laid .alternative (at (p .starts) k + i) (position-below p laid k (omega arith) i (rw (arcs-length (arcs p) (at (p .starts) k) (sizeOf p k)) at (s .0))))
-      (chosen-arcs (suc k) c q (omega arith) (s .1))
+      (chosen-known (suc k) c q (omega arith) (s .1))

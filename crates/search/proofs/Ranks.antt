@@ -10,13 +10,14 @@ use native.Mathlib.Omega.{arith}
 use lib.Dec.{T, ltb, ltb→lt, lt→ltb}
 use lib.ListN.{length, getD, take, drop, set, length-take, length-drop, drop-of-length-le}
 use lib.Seq.{take-nil, take-suc, drop-cons, getD-take, getD-drop, getD-set-same, getD-set-other, take-suc-set}
+use Rattle.laws.proofs.Tests.{is-true, is-false, never}
 use Rattle.meaning.specs.Problem.{Clause}
 use Rattle.meaning.specs.Plain.{product, rank}
 use Rattle.meaning.specs.Search.{Standing, next, sideways}
-use Rattle.meaning.proofs.Booleans.{is-true, is-false, never}
 use Rattle.meaning.proofs.Accepted.{sizes}
 use Rattle.meaning.proofs.Fits.{product-fits, rank-within}
 use Rattle.meaning.proofs.Rows.{Short}
+use Rattle.meaning.proofs.First.{rank-none}
 use Rattle.problem.specs.declared.Problem.{Problem}
 use Rattle.problem.specs.Arcs.{at}
 use Rattle.problem.specs.Laid.{arcs, sizeOf, clausesFrom, clausesIn, Laid}
@@ -164,11 +165,7 @@ module _ (p : Problem) (laid : Laid p) (i all : ℕ) (some : 0 < i) (most : i �
 
 -- no position left
 pub rank-end : (cs : List Clause) (picks : List ℕ) (k : ℕ) → rank cs (drop k (take k picks)) ≡ 0
-rank-end cs picks k = ap (rank cs) (drop-of-length-le (take k picks) (let b : length (take k picks) ≤ k = omega (arith, length-take k picks) in b)) ∙ none-ranked cs
-  where
-    none-ranked : (cs : List Clause) → rank cs [] ≡ 0
-    none-ranked [] = unfold rank in refl
-    none-ranked (c ∷ cs) = unfold rank in refl
+rank-end cs picks k = ap (rank cs) (drop-of-length-le (take k picks) (let b : length (take k picks) ≤ k = omega (arith, length-take k picks) in b)) ∙ sym (rank-none cs)
 
 pub product-end : (p : Problem) → product (clausesFrom p (p .m) (p .m - p .m)) ≡ 1
 unfolding product clausesFrom

@@ -9,12 +9,12 @@ use native.Mathlib.Decide.{decLt}
 use native.Mathlib.Omega.{arith}
 use lib.ListN.{length, getD, take, drop, set, length-append, length-take}
 use lib.Seq.{take-suc-set, getD-set-same, getD-set-other, drop-nil}
+use Rattle.laws.proofs.Tests.{never}
 use Rattle.meaning.specs.Limits.{onwardMark, deadMark}
 use Rattle.meaning.specs.Problem.{Alternative, Clause}
 use Rattle.meaning.specs.Plain.{product}
 use Rattle.meaning.specs.Decision.{sound}
 use Rattle.meaning.specs.Search.{Standing, facts, past, next, Row, mark, cycle, Outcome, found, closed, stopped, later, dead, firstDead, resume}
-use Rattle.meaning.proofs.Booleans.{never}
 use Rattle.meaning.proofs.Carry.{later-later}
 use Rattle.meaning.proofs.Step.{onward, closed-later, step-unsound, step-stopped, step-found, step-dead, step-open}
 use Rattle.problem.specs.declared.Problem.{Problem}

@@ -6,23 +6,23 @@ use mathlib.Core.List.{List, [], _∷_, map}
 use Prim.Native.Nat.{ℕ, suc, _+_, _-_, _<_, _≤_}
 use native.Mathlib.Omega.{arith}
 use lib.ListN.{length, getD, set, replicate, length-map}
+use Rattle.laws.proofs.Tests.{never}
 use Rattle.meaning.specs.Limits.{rowBytes, blankByte, mostAllowance, onwardMark, deadMark}
 use Rattle.meaning.specs.Problem.{Alternative, Clause}
 use Rattle.meaning.specs.Plain.{product}
 use Rattle.meaning.specs.Decision.{sound}
 use Rattle.meaning.specs.Search.{facts, past, next, Row, mark, cycle, Outcome, later, dead, firstDead, search, resume}
 use Rattle.meaning.specs.Reasons.{markRow, Writes}
-use Rattle.meaning.proofs.Booleans.{never}
 use Rattle.meaning.proofs.Carry.{later-none}
 use Rattle.meaning.proofs.Step.{onward, resume-none}
 use Rattle.problem.specs.declared.Problem.{Problem}
-use Rattle.problem.specs.Arcs.{at, arc, Arc}
+use Rattle.problem.specs.Arcs.{at, arc, Known}
 use Rattle.problem.specs.Laid.{arcs, sizeOf, clauseOf, clausesFrom, clausesIn, Laid}
 use Rattle.problem.proofs.Laying.{arcs-length, clause-at, size-most}
 use Rattle.facts.specs.Tests.{places}
 use Rattle.held.specs.declared.Facts.{Facts}
 use Rattle.held.specs.Held.{held, factsIn, Ready}
-use Rattle.held.proofs.Arcs.{arcs-none}
+use Rattle.problem.proofs.Knowing.{known-none}
 use Rattle.search.specs.declared.Place.{Place}
 use Rattle.search.specs.declared.Turn.{Turn}
 use Rattle.search.specs.declared.Turn.the-variants.{On, Plan, Closed, Stop}
@@ -31,7 +31,7 @@ use Rattle.search.specs.Standing.{standingFacts, Inside, DeadFrom}
 use Rattle.search.specs.Places.{openAt}
 use Rattle.search.specs.Listing.{putRow, Keeps}
 use Rattle.search.specs.Steps.{positions, effort, Fine, At, Goes, Means, Steps, Visits, Leaves, Ends, Runs, isOn}
-use Rattle.search.proofs.Numbers.{standing-facts, standing-arcs}
+use Rattle.search.proofs.Numbers.{standing-facts, standing-known}
 use Rattle.search.proofs.Keeping.{put-length, keeps-row, keeps-then}
 use Rattle.search.proofs.Steps.{stands, counted-on, closes, unsound-is, stops-is, found-is, dead-is, opens}
 
@@ -89,7 +89,7 @@ module _ (p : Problem) (laid : Laid p) (s : Place) (long : length (s .picks) ≡
       record {
         free = omega (arith, laid .ends (s .k) (inside .few), laid .last);
         fits = l;
-        within = record { each = subst (λ (L : List ℕ). (i : ℕ) → i < length L → Arc (arcs p) (p .n) (at L i)) (sym is) (standing-arcs p laid 0 (p .m) (positions s) [] (omega arith) (stands p laid (s .picks) (s .k) inside long) (arcs-none p) .each); few = omega arith };
+        within = record { known = subst (Known (arcs p) (p .n)) (sym is) (standing-known p laid 0 (p .m) (positions s) [] (omega arith) (stands p laid (s .picks) (s .k) inside long) (known-none (arcs p) (p .n))); few = omega arith };
       }
 
 -- ---- a step

@@ -65,9 +65,6 @@ sum-val s t A B c a b j P J L p q = go s t
     less : (x y : ℕ) → x + y < 2 ^ 24 → x - y < 2 ^ 24
     less x y h = omega arith
 
-    less' : (x y : ℕ) → x + y < 2 ^ 24 → y - x < 2 ^ 24
-    less' x y h = omega arith
-
     alike : (r : Bool) → HasValue (round binary32 r (A + B) c) r (a + b) (2 ^ j)
     alike r = rounded r (A + B) c (a + b) j P J L (add-mul A B (2 ^ j) ∙ ap (λ (z : ℕ). z + B * 2 ^ j) p ∙ ap (λ (z : ℕ). a * c + z) q ∙ sym (add-mul a b c))
 
@@ -81,7 +78,7 @@ sum-val s t A B c a b j P J L p q = go s t
             record {
               sign = true;
               size = b - a;
-              value = rounded true (B - A) c (b - a) j P J (less' a b L) (diff B A b a q p);
+              value = rounded true (B - A) c (b - a) j P J (less b a (omega arith)) (diff B A b a q p);
               is = sub-le a b (order A B a b p q (le-of-lt (l tt)));
             }
         pick false l g =
@@ -106,7 +103,7 @@ sum-val s t A B c a b j P J L p q = go s t
             record {
               sign = false;
               size = b - a;
-              value = rounded false (B - A) c (b - a) j P J (less' a b L) (diff B A b a q p);
+              value = rounded false (B - A) c (b - a) j P J (less b a (omega arith)) (diff B A b a q p);
               is = +ℤ-comm (negℤ (pos a)) (pos b) ∙ sub-ge b a (order A B a b p q (le-of-lt (l tt)));
             }
         pick false l g =

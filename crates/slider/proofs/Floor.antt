@@ -1,7 +1,7 @@
 -- The floor of a fraction: equal fractions have one floor, and a negative fraction's by its whole part and its rest. Assumes nothing.
 use mathlib.Core.Path.{_≡_, sym, ap, _∙_, subst, refl}
-use Prim.Native.Nat.{ℕ, zero, suc, _+_, _*_, _/_, _%_, _≤_, _<_}
-use native.Mathlib.Nat.{le-trans, le-of-eq, lt-of-le-of-lt, lt-of-lt-of-le, mul-right-comm, mul-le-mul-right, mul-lt-mul-of-pos-right, le-of-mul-le-mul-right, lt-of-mul-lt-mul-right, div-mul-le-self, lt-div-mul-add, div-eq-of-lt-le, div-add-mod', mod-lt, mod-eq-of-lt, zero-div, zero-mul, mul-one, div-one, suc-mul, mul-pos, zero-lt-suc, le-div-iff-mul-le, div-lt-iff-lt-mul, ne-of-gt}
+use Prim.Native.Nat.{ℕ, zero, suc, _+_, _*_, _/_, _%_, _≤_, _<_, suc-le-suc}
+use native.Mathlib.Nat.{le-of-suc-le-suc, le-trans, le-of-eq, lt-of-le-of-lt, lt-of-lt-of-le, mul-right-comm, mul-le-mul-right, mul-lt-mul-of-pos-right, le-of-mul-le-mul-right, lt-of-mul-lt-mul-right, div-mul-le-self, lt-div-mul-add, div-eq-of-lt-le, div-add-mod', mod-lt, mod-eq-of-lt, zero-div, zero-mul, mul-one, div-one, suc-mul, mul-pos, zero-lt-suc, le-div-iff-mul-le, div-lt-iff-lt-mul, ne-of-gt}
 use native.Mathlib.Numerals.{add-one}
 use native.Mathlib.Omega.{arith}
 use mathlib.Core.Bool.{Bool, true, false}
@@ -23,16 +23,10 @@ under-next n d D = subst (λ (z : ℕ). n < z) (next-multiple (n / d) d) (lt-div
 ceil-same : (n D a d : ℕ) → 0 < D → 0 < d → suc n * d ≡ suc a * D → n / D ≡ a / d
 ceil-same n D a d P Q h =
     let q = n / D in
-    let lo : q * D < suc n = under (q * D) n (div-mul-le-self n D) in
+    let lo : q * D < suc n = suc-le-suc (div-mul-le-self n D) in
     let lo' : q * d < suc a = lt-of-mul-lt-mul-right D (lt-of-le-of-lt (le-of-eq (mul-right-comm q d D)) (lt-of-lt-of-le (mul-lt-mul-of-pos-right lo Q) (le-of-eq h))) in
     let hi' : suc a ≤ (q + 1) * d = le-of-mul-le-mul-right (le-trans (le-of-eq (sym h)) (le-trans (mul-le-mul-right d (under-next n D P)) (le-of-eq (mul-right-comm (q + 1) D d)))) P in
-    sym (div-eq-of-lt-le d (within (q * d) a lo') hi')
-  where
-    under : (x n : ℕ) → x ≤ n → x < suc n
-    under x n h = omega arith
-
-    within : (x n : ℕ) → x < suc n → x ≤ n
-    within x n h = omega arith
+    sym (div-eq-of-lt-le d (le-of-suc-le-suc lo') hi')
 
 pub floor-same : (s : Bool) (n D a d : ℕ) → 0 < D → 0 < d → n * d ≡ a * D → floor (signed s n) D ≡ floor (signed s a) d
 floor-same false n D a d P Q h = ap pos (div-same n D a d P Q h)
@@ -73,10 +67,7 @@ neg-le zero n h = absurd (none n h)
   where
     none : (n : ℕ) → n < 0 → ⊥
     none n h = omega arith
-neg-le (suc m) n h = le→leb n m (less h)
-  where
-    less : n < suc m → n ≤ m
-    less h = omega arith
+neg-le (suc m) n h = le→leb n m (le-of-suc-le-suc h)
 
 le-neg : (m n : ℕ) → T (leZ (negℤ (pos m)) (negsuc n)) → n < m
 le-neg zero n t = absurd t
@@ -90,7 +81,4 @@ pub floor-above : (z : ℤ) (d : ℕ) (q : ℤ) → 0 < d → (q *ℤ pos d) ≤
 floor-above (pos n) d (pos q) D h = record { le = le→leb q (n / d) (le-div-iff-mul-le D .1 (leb→le (q * d) n (h .le))) }
 floor-above (pos n) d (negsuc q) D h = record { le = tt }
 floor-above (negsuc n) d (pos q) D h = absurd (h .le)
-floor-above (negsuc n) d (negsuc q) D h = record { le = le→leb (n / d) q (less (n / d) q (div-lt-iff-lt-mul D .1 (le-neg (suc q * d) n (h .le)))) }
-  where
-    less : (a b : ℕ) → a < suc b → a ≤ b
-    less a b h = omega arith
+floor-above (negsuc n) d (negsuc q) D h = record { le = le→leb (n / d) q (le-of-suc-le-suc (div-lt-iff-lt-mul D .1 (le-neg (suc q * d) n (h .le)))) }

@@ -1,11 +1,13 @@
 -- The floor of a quotient that is rounded once to binary32 is the floor of the quotient. Assumes nothing.
 use mathlib.Core.Path.{_≡_, refl, sym, ap, _∙_}
-use mathlib.Core.Logic.{_⊎_, inl, inr}
+use mathlib.Core.Logic.{by-cases}
 use Prim.Native.Nat.{ℕ, suc, _+_, _-_, _*_, _/_, _^_, _≤_, _<_}
-use native.Mathlib.Nat.{le-trans, le-of-eq, lt-of-lt-of-le, lt-of-le-of-lt, mul-assoc, mul-comm, mul-left-comm, mul-le-mul-left, mul-le-mul-right, mul-one, one-mul, suc-mul, le-div-iff-mul-le, mul-pos, mul-sub, div-mul-le-self, div-eq-of-lt-le, lt-of-mul-lt-mul-right, mul-lt-mul-of-pos-right}
+use native.Mathlib.Nat.{lt-of-not-le, le-trans, le-of-eq, lt-of-lt-of-le, lt-of-le-of-lt, mul-assoc, mul-comm, mul-left-comm, mul-le-mul-left, mul-le-mul-right, mul-one, one-mul, suc-mul, le-div-iff-mul-le, mul-pos, mul-sub, div-mul-le-self, div-eq-of-lt-le, lt-of-mul-lt-mul-right, mul-lt-mul-of-pos-right}
+use native.Mathlib.Decide.{decLe}
 use native.Mathlib.Omega.{arith}
-use mathlib.Core.Bool.{Bool, true, false, not}
-use lib.Dec.{T, leb, leb→le, nleb→lt, lit≤}
+use borrow.Author.Count.{falls-down}
+use mathlib.Core.Bool.{true, false}
+use lib.Dec.{T, lit≤}
 use lib.Pow.{pow-pos}
 use lib.IntN.{pos, negℤ}
 use lib.Ieee.{Float, nan, inf, fin, binary32, round, le}
@@ -58,13 +60,10 @@ under-top n k q P h l =
 floor-between : (q P a d : ℕ) → 0 < d → 0 < P → q * d ≤ a * 1 → a * P ≤ (P * (q + 1) - 1) * d → a / d ≡ q
 floor-between q P a d D p lo hi =
     div-eq-of-lt-le d (le-trans lo (le-of-eq (mul-one a)))
-    (lt-of-mul-lt-mul-right P (lt-of-le-of-lt hi (lt-of-lt-of-le (mul-lt-mul-of-pos-right (pred (P * (q + 1)) (mul-pos p (some q))) D) (le-of-eq (simp (mul-assoc, mul-comm, mul-left-comm))))))
+    (lt-of-mul-lt-mul-right P (lt-of-le-of-lt hi (lt-of-lt-of-le (mul-lt-mul-of-pos-right (falls-down (P * (q + 1)) (mul-pos p (some q))) D) (le-of-eq (simp (mul-assoc, mul-comm, mul-left-comm))))))
   where
     some : (q : ℕ) → 0 < q + 1
     some q = omega arith
-
-    pred : (x : ℕ) → 0 < x → x - 1 < x
-    pred x h = omega arith
 
 fixed-down : (u : Use) (x : Float) (n k : ℕ) → T (positive x) → num x / den x ≡ n / k → fixedGives u x ≡ bounded u (pos n) k
 unfolding fixedGives
@@ -88,19 +87,15 @@ quotient u n k j K l some J small =
     fixed-down u x n k (s .above-zero) (floor-between q P (num x) (den x) (den-pos x) (pow-pos j) (s .low) (s .high))
 
 -- ---- a j for each k: 2 ^ j is at least k, and at most so large that q + 1 - 1 / 2 ^ j has 24 digits
-apart : (a b : ℕ) → (a ≤ b) ⊎ (b < a)
-apart a b = go (leb a b) (leb→le a b) (nleb→lt a b)
-  where
-    go : (t : Bool) → (T t → a ≤ b) → (T (not t) → b < a) → (a ≤ b) ⊎ (b < a)
-    go true h k = inl (h tt)
-    go false h k = inr (k tt)
-
 -- q is at most n / g for any g up to k
 quot-le : (n k g : ℕ) → g ≤ k → n / k * g ≤ n
 quot-le n k g h = le-trans (mul-le-mul-left (n / k) h) (div-mul-le-self n k)
 
 pub quotient-floor : (u : Use) (n k : ℕ) → 0 < k → k ≤ grid → k ≤ n → n ≤ grid * workLimit → fixedGives u (round binary32 false n k) ≡ bounded u (pos n) k
-quotient-floor u n k K l some N = go (apart k 8) (apart k 64)
+quotient-floor u n k K l some N =
+    by-cases (decLe k 8) (λ a. quotient u n k 3 K a some (lit≤ tt) (few (n / k) n (quot-le n k 1 K) N))
+    (λ a. by-cases (decLe k 64) (λ b. quotient u n k 6 K b some (lit≤ tt) (mid (n / k) n (quot-le n k 9 (lt-of-not-le a)) N))
+    (λ b. quotient u n k 8 K l some (lit≤ tt) (many (n / k) n (quot-le n k 65 (lt-of-not-le b)) N)))
   where
     few : (q n : ℕ) → q * 1 ≤ n → n ≤ grid * workLimit → 8 * (q + 1) < 2 ^ 24
     few q n h k = omega arith
@@ -110,8 +105,3 @@ quotient-floor u n k K l some N = go (apart k 8) (apart k 64)
 
     many : (q n : ℕ) → q * 65 ≤ n → n ≤ grid * workLimit → 256 * (q + 1) < 2 ^ 24
     many q n h k = omega arith
-
-    go : (k ≤ 8) ⊎ (8 < k) → (k ≤ 64) ⊎ (64 < k) → fixedGives u (round binary32 false n k) ≡ bounded u (pos n) k
-    go (inl a) b = quotient u n k 3 K a some (lit≤ tt) (few (n / k) n (quot-le n k 1 K) N)
-    go (inr a) (inl b) = quotient u n k 6 K b some (lit≤ tt) (mid (n / k) n (quot-le n k 9 a) N)
-    go (inr a) (inr b) = quotient u n k 8 K l some (lit≤ tt) (many (n / k) n (quot-le n k 65 b) N)

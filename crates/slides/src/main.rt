@@ -4,15 +4,14 @@ use slider::SliderAnswer;
 use slider::Travel;
 use slider::Use;
 
+// A whole number of 32 bits at its longest: a sign and ten digits.
+const WHOLE: usize = 11;
+
 // Writes a whole number in decimal, with its sign.
 fn write_whole(z: i32) {
-    let wide = z as i64;
-    if wide < 0 {
-        io::write_all(1, b"-");
-        io::print_decimal(1, (-wide) as u64);
-    } else {
-        io::print_decimal(1, wide as u64);
-    }
+    let mut text = [0u8; WHOLE];
+    let end = dialogue::put_signed(&mut text[..], 0, z);
+    io::write_all(1, &text[..end]);
 }
 
 // Writes what was asked and what was answered.

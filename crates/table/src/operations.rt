@@ -25,21 +25,7 @@ const ANY: u32 = 0xffff_ffff;
 // What lent memory is filled with before a call.
 const FILL: u8 = 7;
 
-fn fill_times(times: &mut [i32]) {
-    let mut i = 0;
-    while i < times.len() {
-        times[i] = 7;
-        i += 1;
-    }
-}
-
-fn fill_bytes(bytes: &mut [u8]) {
-    let mut i = 0;
-    while i < bytes.len() {
-        bytes[i] = FILL;
-        i += 1;
-    }
-}
+const FILL_TIME: i32 = 7;
 
 // plan N ALLOWANCE T P R K t1 … tK M e1 … eM
 pub(crate) fn plan(
@@ -100,7 +86,7 @@ fn planned(
     if place < line.len() {
         return 0;
     }
-    lent(
+    plan_lent(
         n,
         &triples[..k],
         &counts[..m],
@@ -113,7 +99,7 @@ fn planned(
 }
 
 // The plan with this memory lent, and its reply.
-fn lent(
+fn plan_lent(
     n: u32,
     triples: &[i32],
     counts: &[u32],
@@ -123,9 +109,9 @@ fn lent(
     reasons: &mut [u8],
     reply: &mut [u8],
 ) -> usize {
-    fill_times(timetable);
-    fill_bytes(picks);
-    fill_bytes(reasons);
+    lent::fill_numbers(timetable, FILL_TIME);
+    lent::fill_bytes(picks, FILL);
+    lent::fill_bytes(reasons, FILL);
     let answer = planner::plan(n, triples, counts, allowance, timetable, picks, reasons);
     let to = put_answer(reply, answer);
     put_lent(reply, to, timetable, picks, reasons)

@@ -12,7 +12,8 @@ use Rattle.meaning.specs.Limits.{mostClauses}
 use Rattle.meaning.specs.Lamps.{ones, lit}
 use Rattle.problem.specs.Arcs.{at}
 use Rattle.problem.specs.Laid.{clausesIn}
-use Rattle.lent.proofs.Writing.{write-more, drop-replicate}
+use Rattle.laws.proofs.Lists.{drop-replicate}
+use Rattle.lent.proofs.Writing.{write-more}
 use Rattle.lamps.specs.Masks.{mask}
 use Rattle.lamps.proofs.Lit.{count-is-clause, counts-length}
 use Rattle.lamps.proofs.counts_of.Statement.{statement}

@@ -9,18 +9,18 @@ use borrow.Author.Needs.{needs}
 use Rattle.meaning.specs.Limits.{mostAlternatives}
 use Rattle.meaning.specs.Problem.{Alternative}
 use Rattle.meaning.specs.Lamps.{forced}
-use Rattle.problem.specs.Arcs.{at, arc}
+use Rattle.problem.specs.Arcs.{at, arc, Known}
 use Rattle.problem.specs.Laid.{arcs, clausesFrom}
 use Rattle.facts.specs.Tests.{places}
 use Rattle.held.specs.Held.{held, factsIn}
-use Rattle.held.proofs.Arcs.{Arcs, arcs-none, arcs-more}
+use Rattle.problem.proofs.Knowing.{known-none, known-more}
 use Rattle.lamps.proofs.Forced.{forced-none, forced-all, forced-taken, forced-passed}
 use Rattle.lamps.proofs.forced_facts.Statement.{statement}
 use Rattle.lamps.proofs.forced_facts.Tie as tie
 
 abbrev Inv-loop : tie.InvT-loop
 Inv-loop p f₀ k₀ f k =
-    (factsIn p f ≡ forced (clausesFrom p k (p .m - k))) × Arcs p (held f) × (f .at ≤ places) × (places ≤ f .at + (p .m - k)) × (k ≤ p .m)
+    (factsIn p f ≡ forced (clausesFrom p k (p .m - k))) × Known (arcs p) (p .n) (held f) × (f .at ≤ places) × (places ≤ f .at + (p .m - k)) × (k ≤ p .m)
 
 abbrev μ-loop : tie.MeasureT-loop
 μ-loop p f₀ k₀ f k = k
@@ -33,7 +33,7 @@ loop-holds c =
     let p = c .before .args .p in
     let none = c .no-facts .ensures .0 in (
       ap (map (arc (arcs p))) none ∙ sym (forced-none p (p .m)),
-      rw none (arcs-none p),
+      rw none (known-none (arcs p) (p .n)),
       omega (arith, c .no-facts .ensures .1),
       omega (arith, c .no-facts .ensures .1),
       omega arith,
@@ -76,7 +76,7 @@ loop-again c =
     let j = at (p .starts) (k - 1) in
     let end : at (p .starts) (k - 1 + 1) ≤ at (p .starts) (p .m) = s .pre .ends (k - 1 + 1) (omega arith) in (
       ap (map (arc (arcs p))) first ∙ ap (λ (fs : List Alternative). arc (arcs p) j ∷ fs) (i .0) ∙ forced-taken p k some (i .4) one,
-      rw first (arcs-more p j _ (s .pre .alternative j (omega arith)) (i .1)),
+      rw first (known-more (arcs p) (p .n) j _ (s .pre .alternative j (omega arith)) (i .1)),
       omega (arith, c .put .ensures .1),
       omega (arith, c .put .ensures .1),
       omega arith,
@@ -101,7 +101,7 @@ returns c =
       record {
         free = omega (arith, s .pre .few);
         fits = i .2;
-        within = record { each = i .1 .each; few = omega arith };
+        within = record { known = i .1; few = omega arith };
       },
       i .0 ∙ forced-all (s .args .p) (c .before .loop .k) (omega arith),
     )

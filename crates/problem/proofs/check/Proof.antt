@@ -1,9 +1,10 @@
 -- `problem::check` meets its contract. Assumes nothing.
 use mathlib.Core.Path.{_≡_, sym, subst, _∙_}
 use Rattle.meaning.specs.Screen.{Lent, problemRefusal}
+use Rattle.meaning.proofs.Accepted.{Passes, passes}
 use Rattle.problem.specs.declared.Problem.{Problem}
 use Rattle.problem.specs.Reads.{given, Reads}
-use Rattle.problem.proofs.Acceptance.{Passes, passes, loadable, counts-small, reads, assembled, taken, refused}
+use Rattle.problem.proofs.Acceptance.{loadable, counts-small, reads, assembled, taken, refused}
 use borrow.Author.Needs.{needs}
 use Rattle.problem.proofs.check.Statement.{statement}
 use Rattle.problem.proofs.check.Tie as tie

@@ -10,9 +10,10 @@ use Rattle.meaning.specs.Limits.{mostBound, mostAlternatives}
 use Rattle.meaning.specs.Problem.{Alternative, opposite}
 use Rattle.meaning.specs.Screen.{alternatives}
 use Rattle.lent.proofs.Signed.{element}
+use Rattle.meaning.proofs.Accepted.{alternatives-count}
 use Rattle.problem.specs.Arcs.{bias}
 use Rattle.problem.specs.Loaded.{biased}
-use Rattle.problem.proofs.Triples.{alternativeAt, alternative-at, alternatives-count, events-at, bounds-at}
+use Rattle.problem.proofs.Triples.{alternativeAt, alternative-at, events-at, bounds-at}
 use Rattle.problem.proofs.Lifting.{lifts, lifts-opposite}
 use Rattle.problem.proofs.Tables.{Written, written-none, written-more, written-all}
 use Rattle.problem.proofs.load.Statement.{statement}

@@ -7,7 +7,8 @@ use borrow.Author.Needs.{needs}
 use lib.ListN.{length, getD, take, drop, replicate, length-set, set}
 use lib.Seq.{take-all}
 use Rattle.meaning.specs.Limits.{mostClauses}
-use Rattle.lent.proofs.Writing.{write-more, drop-replicate}
+use Rattle.laws.proofs.Lists.{drop-replicate}
+use Rattle.lent.proofs.Writing.{write-more}
 use Rattle.problem.specs.Loaded.{placed}
 use Rattle.problem.proofs.starts_of.Statement.{statement}
 use Rattle.problem.proofs.starts_of.Tie as tie

@@ -10,9 +10,9 @@ use lib.ListN.{length-drop}
 use lib.Seq.{take-all, length-take-le}
 use Rattle.meaning.specs.Limits.{rowBytes}
 use Rattle.meaning.specs.Reasons.{loops, cycleOver}
-use Rattle.problem.specs.Arcs.{arc}
+use Rattle.problem.specs.Arcs.{arc, Known}
 use Rattle.problem.specs.Laid.{arcs}
-use Rattle.readers.specs.Standing.{Known, factsFrom}
+use Rattle.readers.specs.Standing.{factsFrom}
 use Rattle.readers.proofs.Rows.{row-most}
 use Rattle.readers.proofs.Marks.{numbers-few, cycle-unfilled, cycle-filled}
 use Rattle.readers.proofs.cycle_at.Statement.{statement}
@@ -55,7 +55,7 @@ is-cycle-requires c κs = let a = c .before .before .before .before .before .bef
     let r = c .before .before .before .before .before in
     let n = numbers-few (r .before .row-at .result .now) in
     let s : length (r .before .row-at .result .now) ≤ 16 = rw (r .before .row-at .ensures) (row-most rowBytes (a .args .list .now) (a .args .row)) in (
-      subst (λ (l : List ℕ). Known (a .args .p) l) (sym (all (a .args .from) (a .args .t2) (search needs))) (a .pre .0),
+      subst (λ (l : List ℕ). Known (arcs (a .args .p)) (a .args .p .n) l) (sym (all (a .args .from) (a .args .t2) (search needs))) (a .pre .0),
       rw (length-take-le (r .row-len .result) (r .before .row-at .result .now) (omega (arith, r .row-len .ensures))) (omega (arith, r .row-len .ensures)),
     )
 

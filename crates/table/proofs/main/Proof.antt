@@ -1,31 +1,32 @@
 -- `main` is safe and ends. Assumes nothing.
 use Prim.Native.Nat.{ℕ}
 use borrow.Author.Needs.{needs}
+use mathlib.Core.Path.{sym}
 use lib.IntN.{pos}
-use Rattle.table.proofs.Sizes.{full}
+use lib.ListN.{length-replicate}
 use Rattle.table.proofs.main.Statement.{statement}
 use Rattle.table.proofs.main.Tie as tie
 
 slice-aggregate-talk : tie.Need-slice-aggregate-talk
-slice-aggregate-talk c = full {A = ℕ} 1048577 0
+slice-aggregate-talk c = sym (length-replicate {A = ℕ} 1048577 0)
 
 slice-aggregate-talk-2 : tie.Need-slice-aggregate-talk-2
-slice-aggregate-talk-2 c = full {A = ℕ} 266240 0
+slice-aggregate-talk-2 c = sym (length-replicate {A = ℕ} 266240 0)
 
 slice-aggregate-talk-3 : tie.Need-slice-aggregate-talk-3
-slice-aggregate-talk-3 c = full 256 (pos 0)
+slice-aggregate-talk-3 c = sym (length-replicate 256 (pos 0))
 
 slice-aggregate-talk-4 : tie.Need-slice-aggregate-talk-4
-slice-aggregate-talk-4 c = full {A = ℕ} 64 0
+slice-aggregate-talk-4 c = sym (length-replicate {A = ℕ} 64 0)
 
 slice-aggregate-talk-5 : tie.Need-slice-aggregate-talk-5
-slice-aggregate-talk-5 c = full 64 (pos 0)
+slice-aggregate-talk-5 c = sym (length-replicate 64 (pos 0))
 
 slice-aggregate-talk-6 : tie.Need-slice-aggregate-talk-6
-slice-aggregate-talk-6 c = full {A = ℕ} 64 0
+slice-aggregate-talk-6 c = sym (length-replicate {A = ℕ} 64 0)
 
 slice-aggregate-talk-7 : tie.Need-slice-aggregate-talk-7
-slice-aggregate-talk-7 c = full {A = ℕ} 65536 0
+slice-aggregate-talk-7 c = sym (length-replicate {A = ℕ} 65536 0)
 
 talk-requires : tie.Need-talk-requires
 talk-requires c κs = search needs

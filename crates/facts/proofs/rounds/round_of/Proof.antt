@@ -29,7 +29,7 @@ wide-requires c κs = search needs
 
 -- the arc of this turn
 arc : (c : tie.After-wide Inv-loop μ-loop) → Arc (net (c .before .before .before .before .before .before .before .before .args .xs .now) (c .before .before .before .before .before .before .before .before .args .ys .now) (c .before .before .before .before .before .before .before .before .args .bs .now)) mostEvents (c .wide .result)
-arc c = rw (c .wide .ensures) (c .before .before .before .before .before .before .before .before .pre .0 .each (c .before .before .before .loop .i) (omega arith))
+arc c = rw (c .wide .ensures) (c .before .before .before .before .before .before .before .before .pre .0 .known .each (c .before .before .before .loop .i) (omega arith))
 
 shared-slice-read-wide-2 : tie.Need-shared-slice-read-wide-2 Inv-loop μ-loop
 shared-slice-read-wide-2 c = arc (c .before) .in-xs

@@ -27,7 +27,7 @@ wide-requires c κs = search needs
 raises-requires : tie.Need-raises-requires Inv-loop μ-loop
 raises-requires c κs =
     let p = c .before .before .before .before .before .before .before .before .pre in
-    rw (c .wide .ensures) (p .0 .each (c .before .before .before .loop .i) (omega arith), p .1, p .2, p .3)
+    rw (c .wide .ensures) (p .0 .known .each (c .before .before .before .loop .i) (omega arith), p .1, p .2, p .3)
 
 returns : tie.Need-returns Inv-loop μ-loop
 returns c = record { below = omega arith; raises = rw (← (c .before .before .wide .ensures)) (c .before .raises .ensures .yes (c .if1 .taken)) }

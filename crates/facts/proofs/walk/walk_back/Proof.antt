@@ -58,7 +58,7 @@ wide-requires-2 c κs = search needs
 
 shared-slice-read-y : tie.Need-shared-slice-read-y Inv-loop μ-loop
 shared-slice-read-y c =
-    let a = c .before .before .before .before .before .before .before .before .before .before .before .before .before .pre .0 .each _ (c .before .before .before .raiser .ensures .below) in
+    let a = c .before .before .before .before .before .before .before .before .before .before .before .before .before .pre .0 .known .each _ (c .before .before .before .raiser .ensures .below) in
     rw (c .before .wide2 .ensures) (omega arith)
 
 array-write-arcs : tie.Need-array-write-arcs Inv-loop μ-loop

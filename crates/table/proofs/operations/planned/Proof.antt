@@ -1,5 +1,4 @@
 -- `planned` is safe and ends. Assumes nothing.
-use Prim.Native.Nat.{_-_}
 use native.Mathlib.Omega.{arith}
 use borrow.Author.Needs.{needs}
 use lib.ListN.{length-take}
@@ -33,28 +32,28 @@ same-length-4 c = search needs
 returns-2 : tie.Need-returns-2
 returns-2 c = search needs
 
-slice-reshare-prefix-lent : tie.Need-slice-reshare-prefix-lent
-slice-reshare-prefix-lent c =
+slice-reshare-prefix-plan-lent : tie.Need-slice-reshare-prefix-plan-lent
+slice-reshare-prefix-plan-lent c =
     let h = rw (c .before .before .k .given .1) at (c .before .before .before .before .before .before .before .lists-at .ensures) in
     omega arith
 
-slice-aggregate-lent : tie.Need-slice-aggregate-lent
-slice-aggregate-lent c =
+slice-aggregate-plan-lent : tie.Need-slice-aggregate-plan-lent
+slice-aggregate-plan-lent c =
     let h = rw (c .before .before .before .k .given .1) at (c .before .before .before .before .before .before .before .before .lists-at .ensures) in
     simp length-take (omega arith)
 
-slice-reshare-prefix-lent-2 : tie.Need-slice-reshare-prefix-lent-2
-slice-reshare-prefix-lent-2 c =
+slice-reshare-prefix-plan-lent-2 : tie.Need-slice-reshare-prefix-plan-lent-2
+slice-reshare-prefix-plan-lent-2 c =
     let h = rw (c .before .before .before .k .given .1) at (c .before .before .before .before .before .before .before .before .lists-at .ensures) in
     omega arith
 
-slice-aggregate-lent-2 : tie.Need-slice-aggregate-lent-2
-slice-aggregate-lent-2 c =
+slice-aggregate-plan-lent-2 : tie.Need-slice-aggregate-plan-lent-2
+slice-aggregate-plan-lent-2 c =
     let h = rw (c .before .before .before .before .k .given .1) at (c .before .before .before .before .before .before .before .before .before .lists-at .ensures) in
     simp length-take (omega arith)
 
-lent-requires : tie.Need-lent-requires
-lent-requires c κs = search needs
+plan-lent-requires : tie.Need-plan-lent-requires
+plan-lent-requires c κs = search needs
 
 same-length-5 : tie.Need-same-length-5
 same-length-5 c = search needs
@@ -90,11 +89,11 @@ planned-spec =
     same-length-3
     same-length-4
     returns-2
-    slice-reshare-prefix-lent
-    slice-aggregate-lent
-    slice-reshare-prefix-lent-2
-    slice-aggregate-lent-2
-    lent-requires
+    slice-reshare-prefix-plan-lent
+    slice-aggregate-plan-lent
+    slice-reshare-prefix-plan-lent-2
+    slice-aggregate-plan-lent-2
+    plan-lent-requires
     same-length-5
     same-length-6
     same-length-7

@@ -1,0 +1,4 @@
+pub mod Tests
+pub mod Order
+pub mod Differences
+pub mod Lists

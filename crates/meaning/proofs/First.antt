@@ -301,12 +301,7 @@ first-one cs p q f g = pick (order cs p q (f .sel) (g .sel))
     pick (inr (inl e)) = e
     pick (inr (inr l)) = absurd (f .first q (g .sel) l (g .holds))
 
--- what decides the same facts is the same: an engine's own test may stand for `sound`
-pub decides-same : (sound other : List Alternative → Bool) → Decides sound → Decides other → (fs : List Alternative) → sound fs ≡ other fs
-decides-same sound other h k fs =
-    same-test (sound fs) (other fs) (λ t. let y : Sound fs = h .right fs t in k .whole fs (y .0) (y .1)) (λ t. let y : Sound fs = k .right fs t in h .whole fs (y .0) (y .1))
-
--- facts with the same timetables are as sound: their order and their copies do not product
+-- facts with the same timetables are as sound: their order and their copies do not count
 pub sound-same : (sound : List Alternative → Bool) → Decides sound → (fs gs : List Alternative) → ((t : Timetable) → Satisfies t fs → Satisfies t gs) → ((t : Timetable) → Satisfies t gs → Satisfies t fs) → sound fs ≡ sound gs
 sound-same sound h fs gs f g =
     same-test (sound fs) (sound gs) (λ t. let y : Sound fs = h .right fs t in h .whole gs (y .0) (f (y .0) (y .1))) (λ t. let y : Sound gs = h .right gs t in h .whole fs (y .0) (g (y .0) (y .1)))

@@ -207,13 +207,6 @@ lowered v s = go (ltb v s) refl
     go true e = less (ltb→lt v s (subst T (sym e) tt))
     go false e = same (by-contra _ _ (λ h. subst T e (lt→ltb v s h)))
 
-lower-le : (v s : ℕ) → lower v s ≤ s
-lower-le v s = go (lowered v s)
-  where
-    go : {m : ℕ} → Lower v s m → m ≤ s
-    go (less h) = omega arith
-    go (same h) = le-refl s
-
 lower-one : (v s : ℕ) → lower v s + one (ltb v s) ≡ s
 unfolding lower
 lower-one v s = go (ltb v s) refl

@@ -1,6 +1,7 @@
 // Reading a request: what its line asks for, with its lists in lent memory. The lengths of that memory are the limits of the counts.
-ghost use lib.ListN.{length};
-ghost use Rattle.exchange.specs.Limits.{CountIn, ListsIn, HeadIn};
+ghost use mathlib.Core.Path.{_≡_};
+ghost use Rattle.dialogue.specs.Words.{unsignedOf, signedOf};
+ghost use Rattle.exchange.specs.Requests.{number, countAt, listAt, filledAt, listsAt, countsAt, headAt};
 use dialogue::Listed;
 use dialogue::Next;
 
@@ -38,7 +39,7 @@ pub enum Head {
 
 // A count at `at`, `most` at most.
 fn count_at(line: &[u8], at: usize, most: usize) -> Counted
-    ensures { λ r. ⌜ CountIn most r ⌝ }
+    ensures { λ r. ⌜ r ≡ countAt (now (line .entry)) at most ⌝ }
 {
     let Next::Of { value, place } = dialogue::number_at(line, at, ANY) else {
         return Counted::Malformed;
@@ -53,7 +54,8 @@ fn count_at(line: &[u8], at: usize, most: usize) -> Counted
 
 // A count and so many signed numbers, into the front of `out`.
 pub fn signed_list(line: &[u8], at: usize, out: &mut [i32]) -> Counted
-    ensures { λ r. ⌜ CountIn (length (now (out .entry))) r ⌝ }
+    ensures { λ r. ⌜ r ≡ listAt signedOf (now (line .entry)) at (now (out .entry)) ⌝ }
+    ensures { λ _. ⌜ now (out .exit) ≡ filledAt signedOf (now (line .entry)) at (now (out .entry)) ⌝ }
 {
     let Counted::Of { count, place } = count_at(line, at, out.len()) else {
         return Counted::Malformed;
@@ -66,7 +68,8 @@ pub fn signed_list(line: &[u8], at: usize, out: &mut [i32]) -> Counted
 
 // A count and so many unsigned numbers, into the front of `out`.
 fn number_list(line: &[u8], at: usize, out: &mut [u32]) -> Counted
-    ensures { λ r. ⌜ CountIn (length (now (out .entry))) r ⌝ }
+    ensures { λ r. ⌜ r ≡ listAt number (now (line .entry)) at (now (out .entry)) ⌝ }
+    ensures { λ _. ⌜ now (out .exit) ≡ filledAt number (now (line .entry)) at (now (out .entry)) ⌝ }
 {
     let Counted::Of { count, place } = count_at(line, at, out.len()) else {
         return Counted::Malformed;
@@ -79,7 +82,8 @@ fn number_list(line: &[u8], at: usize, out: &mut [u32]) -> Counted
 
 // A count and so many bytes, into the front of `out`.
 pub fn byte_list(line: &[u8], at: usize, out: &mut [u8]) -> Counted
-    ensures { λ r. ⌜ CountIn (length (now (out .entry))) r ⌝ }
+    ensures { λ r. ⌜ r ≡ listAt (unsignedOf 255) (now (line .entry)) at (now (out .entry)) ⌝ }
+    ensures { λ _. ⌜ now (out .exit) ≡ filledAt (unsignedOf 255) (now (line .entry)) at (now (out .entry)) ⌝ }
 {
     let Counted::Of { count, place } = count_at(line, at, out.len()) else {
         return Counted::Malformed;
@@ -92,7 +96,9 @@ pub fn byte_list(line: &[u8], at: usize, out: &mut [u8]) -> Counted
 
 // A problem's triples and clause counts.
 pub fn lists_at(line: &[u8], at: usize, triples: &mut [i32], counts: &mut [u32]) -> Lists
-    ensures { λ r. ⌜ ListsIn (length (now (triples .entry))) (length (now (counts .entry))) r ⌝ }
+    ensures { λ r. ⌜ r ≡ listsAt (now (line .entry)) at (now (triples .entry)) (now (counts .entry)) ⌝ }
+    ensures { λ _. ⌜ now (triples .exit) ≡ filledAt signedOf (now (line .entry)) at (now (triples .entry)) ⌝ }
+    ensures { λ _. ⌜ now (counts .exit) ≡ countsAt (now (line .entry)) at (now (triples .entry)) (now (counts .entry)) ⌝ }
 {
     let Counted::Of { count: k, place } = signed_list(line, at, triples) else {
         return Lists::Malformed;
@@ -115,7 +121,7 @@ pub fn head_at(
     most_picks: usize,
     most_reasons: usize,
 ) -> Head
-    ensures { λ r. ⌜ HeadIn «most_times» «most_picks» «most_reasons» r ⌝ }
+    ensures { λ r. ⌜ r ≡ headAt (now (line .entry)) at «most_times» «most_picks» «most_reasons» ⌝ }
 {
     let Next::Of { value: n, place: a } = dialogue::number_at(line, at, ANY) else {
         return Head::Malformed;

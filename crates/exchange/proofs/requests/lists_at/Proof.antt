@@ -1,6 +1,6 @@
 -- `lists_at` meets its contract. Assumes nothing.
-use Prim.Native.Nat.{_-_}
 use borrow.Author.Needs.{needs}
+use Rattle.exchange.proofs.Asking.{lists-none, lists-of, lists-off, counts-filled}
 use Rattle.exchange.proofs.requests.lists_at.Statement.{statement}
 use Rattle.exchange.proofs.requests.lists_at.Tie as tie
 
@@ -17,7 +17,11 @@ same-length : tie.Need-same-length
 same-length c = search needs
 
 returns : tie.Need-returns
-returns c = search needs
+returns c =
+    let a = c .before .before .before .before .before .before .before .args in
+    let t = c .before .before .before .signed-list .ensures in
+    let n = lists-none (a .line .now) (a .at) (a .triples .now) (a .counts .now) _ (t .0) (c .enum-told .given .1) in
+    (n .0, (t .1, n .1))
 
 number-list-requires : tie.Need-number-list-requires
 number-list-requires c κs = search needs
@@ -35,7 +39,14 @@ same-length-3 : tie.Need-same-length-3
 same-length-3 c = search needs
 
 returns-2 : tie.Need-returns-2
-returns-2 c = (rw (c .before .before .before .before .before .before .before .before .k .given .1) at (c .before .before .before .before .before .before .before .before .before .before .before .signed-list .ensures), rw (c .before .m .given .1) at (c .before .before .before .before .before .number-list .ensures))
+returns-2 c =
+    let a = c .before .before .before .before .before .before .before .before .before .before .before .before .before .before .before .args in
+    let t = c .before .before .before .before .before .before .before .before .before .before .before .signed-list .ensures in
+    let k = c .before .before .before .before .before .before .before .before .k .given in
+    let n = c .before .before .before .before .before .number-list .ensures in (
+      lists-of (a .line .now) (a .at) (a .triples .now) (a .counts .now) _ (t .0) _ _ (k .1) _ (n .0) _ _ (c .before .m .given .1),
+      (t .1, counts-filled (a .line .now) (a .at) (a .triples .now) (a .counts .now) _ (t .0) _ _ (k .1) _ (n .0) _ (n .1)),
+    )
 
 same-length-4 : tie.Need-same-length-4
 same-length-4 c = search needs
@@ -44,7 +55,14 @@ same-length-5 : tie.Need-same-length-5
 same-length-5 c = search needs
 
 returns-3 : tie.Need-returns-3
-returns-3 c = search needs
+returns-3 c =
+    let a = c .before .before .before .before .before .before .before .before .before .before .before .before .before .before .args in
+    let t = c .before .before .before .before .before .before .before .before .before .before .signed-list .ensures in
+    let k = c .before .before .before .before .before .before .before .k .given in
+    let n = c .before .before .before .before .number-list .ensures in (
+      lists-off (a .line .now) (a .at) (a .triples .now) (a .counts .now) _ (t .0) _ _ (k .1) _ (n .0) (c .enum-told2 .given .1),
+      (t .1, counts-filled (a .line .now) (a .at) (a .triples .now) (a .counts .now) _ (t .0) _ _ (k .1) _ (n .0) _ (n .1)),
+    )
 
 pub lists-at-spec : {M : Type 1} → statement M
 lists-at-spec =

@@ -1,8 +1,9 @@
 -- `lamps` is safe and ends. Assumes nothing.
-use Prim.Native.Nat.{_-_}
+use mathlib.Core.Path.{sym, _∙_}
 use native.Mathlib.Omega.{arith}
 use borrow.Author.Needs.{needs}
 use lib.ListN.{length-take}
+use Rattle.exchange.proofs.Asking.{lists-in}
 use Rattle.table.proofs.operations.lamps.Statement.{statement}
 use Rattle.table.proofs.operations.lamps.Tie as tie
 
@@ -47,22 +48,26 @@ returns-3 c = search needs
 
 slice-reshare-prefix-lamps : tie.Need-slice-reshare-prefix-lamps
 slice-reshare-prefix-lamps c =
-    let h = rw (c .before .before .before .k .given .1) at (c .before .before .before .before .before .before .before .before .lists-at .ensures) in
+    let a = c .before .before .before .before .before .before .before .before .before .before .before .before .before .before .before .before .before .before .args in
+    let h = lists-in _ _ (a .triples .now) (a .counts .now) _ _ _ (sym (c .before .before .before .before .before .before .before .before .lists-at .ensures .0) ∙ c .before .before .before .k .given .1) in
     omega arith
 
 slice-aggregate-lamps : tie.Need-slice-aggregate-lamps
 slice-aggregate-lamps c =
-    let h = rw (c .before .before .before .before .k .given .1) at (c .before .before .before .before .before .before .before .before .before .lists-at .ensures) in
+    let a = c .before .before .before .before .before .before .before .before .before .before .before .before .before .before .before .before .before .before .before .args in
+    let h = lists-in _ _ (a .triples .now) (a .counts .now) _ _ _ (sym (c .before .before .before .before .before .before .before .before .before .lists-at .ensures .0) ∙ c .before .before .before .before .k .given .1) in
     simp length-take (omega arith)
 
 slice-reshare-prefix-lamps-2 : tie.Need-slice-reshare-prefix-lamps-2
 slice-reshare-prefix-lamps-2 c =
-    let h = rw (c .before .before .before .before .k .given .1) at (c .before .before .before .before .before .before .before .before .before .lists-at .ensures) in
+    let a = c .before .before .before .before .before .before .before .before .before .before .before .before .before .before .before .before .before .before .before .args in
+    let h = lists-in _ _ (a .triples .now) (a .counts .now) _ _ _ (sym (c .before .before .before .before .before .before .before .before .before .lists-at .ensures .0) ∙ c .before .before .before .before .k .given .1) in
     omega arith
 
 slice-aggregate-lamps-2 : tie.Need-slice-aggregate-lamps-2
 slice-aggregate-lamps-2 c =
-    let h = rw (c .before .before .before .before .before .k .given .1) at (c .before .before .before .before .before .before .before .before .before .before .lists-at .ensures) in
+    let a = c .before .before .before .before .before .before .before .before .before .before .before .before .before .before .before .before .before .before .before .before .args in
+    let h = lists-in _ _ (a .triples .now) (a .counts .now) _ _ _ (sym (c .before .before .before .before .before .before .before .before .before .before .lists-at .ensures .0) ∙ c .before .before .before .before .before .k .given .1) in
     simp length-take (omega arith)
 
 lamps-requires : tie.Need-lamps-requires

@@ -1,8 +1,9 @@
 -- `plan` is safe and ends. Assumes nothing.
-use Prim.Native.Nat.{_-_}
+use mathlib.Core.Path.{sym, _∙_}
 use native.Mathlib.Omega.{arith}
 use borrow.Author.Needs.{needs}
 use lib.ListN.{length-take}
+use Rattle.exchange.proofs.Asking.{head-in}
 use Rattle.table.proofs.operations.plan.Statement.{statement}
 use Rattle.table.proofs.operations.plan.Tie as tie
 
@@ -14,32 +15,32 @@ enum-known-n c = search needs
 
 slice-relend-prefix-planned : tie.Need-slice-relend-prefix-planned
 slice-relend-prefix-planned c =
-    let h = rw (c .before .before .before .before .n .given .1) at (c .before .before .before .before .before .before .head-at .ensures) in
+    let h = head-in _ _ _ _ _ _ _ _ _ _ _ (sym (c .before .before .before .before .before .before .head-at .ensures) ∙ c .before .before .before .before .n .given .1) in
     omega arith
 
 slice-aggregate-planned : tie.Need-slice-aggregate-planned
 slice-aggregate-planned c =
-    let h = rw (c .before .before .before .before .before .n .given .1) at (c .before .before .before .before .before .before .before .head-at .ensures) in
+    let h = head-in _ _ _ _ _ _ _ _ _ _ _ (sym (c .before .before .before .before .before .before .before .head-at .ensures) ∙ c .before .before .before .before .before .n .given .1) in
     simp length-take (omega arith)
 
 slice-relend-prefix-planned-2 : tie.Need-slice-relend-prefix-planned-2
 slice-relend-prefix-planned-2 c =
-    let h = rw (c .before .before .before .before .before .n .given .1) at (c .before .before .before .before .before .before .before .head-at .ensures) in
+    let h = head-in _ _ _ _ _ _ _ _ _ _ _ (sym (c .before .before .before .before .before .before .before .head-at .ensures) ∙ c .before .before .before .before .before .n .given .1) in
     omega arith
 
 slice-aggregate-planned-2 : tie.Need-slice-aggregate-planned-2
 slice-aggregate-planned-2 c =
-    let h = rw (c .before .before .before .before .before .before .n .given .1) at (c .before .before .before .before .before .before .before .before .head-at .ensures) in
+    let h = head-in _ _ _ _ _ _ _ _ _ _ _ (sym (c .before .before .before .before .before .before .before .before .head-at .ensures) ∙ c .before .before .before .before .before .before .n .given .1) in
     simp length-take (omega arith)
 
 slice-relend-prefix-planned-3 : tie.Need-slice-relend-prefix-planned-3
 slice-relend-prefix-planned-3 c =
-    let h = rw (c .before .before .before .before .before .before .n .given .1) at (c .before .before .before .before .before .before .before .before .head-at .ensures) in
+    let h = head-in _ _ _ _ _ _ _ _ _ _ _ (sym (c .before .before .before .before .before .before .before .before .head-at .ensures) ∙ c .before .before .before .before .before .before .n .given .1) in
     omega arith
 
 slice-aggregate-planned-3 : tie.Need-slice-aggregate-planned-3
 slice-aggregate-planned-3 c =
-    let h = rw (c .before .before .before .before .before .before .before .n .given .1) at (c .before .before .before .before .before .before .before .before .before .head-at .ensures) in
+    let h = head-in _ _ _ _ _ _ _ _ _ _ _ (sym (c .before .before .before .before .before .before .before .before .before .head-at .ensures) ∙ c .before .before .before .before .before .before .before .n .given .1) in
     simp length-take (omega arith)
 
 planned-requires : tie.Need-planned-requires

@@ -1,7 +1,9 @@
 -- `planned` is safe and ends. Assumes nothing.
+use mathlib.Core.Path.{sym, _∙_}
 use native.Mathlib.Omega.{arith}
 use borrow.Author.Needs.{needs}
 use lib.ListN.{length-take}
+use Rattle.exchange.proofs.Asking.{lists-in}
 use Rattle.table.proofs.operations.planned.Statement.{statement}
 use Rattle.table.proofs.operations.planned.Tie as tie
 
@@ -34,22 +36,26 @@ returns-2 c = search needs
 
 slice-reshare-prefix-plan-lent : tie.Need-slice-reshare-prefix-plan-lent
 slice-reshare-prefix-plan-lent c =
-    let h = rw (c .before .before .k .given .1) at (c .before .before .before .before .before .before .before .lists-at .ensures) in
+    let a = c .before .before .before .before .before .before .before .before .before .before .before .before .before .before .before .args in
+    let h = lists-in _ _ (a .triples .now) (a .counts .now) _ _ _ (sym (c .before .before .before .before .before .before .before .lists-at .ensures .0) ∙ c .before .before .k .given .1) in
     omega arith
 
 slice-aggregate-plan-lent : tie.Need-slice-aggregate-plan-lent
 slice-aggregate-plan-lent c =
-    let h = rw (c .before .before .before .k .given .1) at (c .before .before .before .before .before .before .before .before .lists-at .ensures) in
+    let a = c .before .before .before .before .before .before .before .before .before .before .before .before .before .before .before .before .args in
+    let h = lists-in _ _ (a .triples .now) (a .counts .now) _ _ _ (sym (c .before .before .before .before .before .before .before .before .lists-at .ensures .0) ∙ c .before .before .before .k .given .1) in
     simp length-take (omega arith)
 
 slice-reshare-prefix-plan-lent-2 : tie.Need-slice-reshare-prefix-plan-lent-2
 slice-reshare-prefix-plan-lent-2 c =
-    let h = rw (c .before .before .before .k .given .1) at (c .before .before .before .before .before .before .before .before .lists-at .ensures) in
+    let a = c .before .before .before .before .before .before .before .before .before .before .before .before .before .before .before .before .args in
+    let h = lists-in _ _ (a .triples .now) (a .counts .now) _ _ _ (sym (c .before .before .before .before .before .before .before .before .lists-at .ensures .0) ∙ c .before .before .before .k .given .1) in
     omega arith
 
 slice-aggregate-plan-lent-2 : tie.Need-slice-aggregate-plan-lent-2
 slice-aggregate-plan-lent-2 c =
-    let h = rw (c .before .before .before .before .k .given .1) at (c .before .before .before .before .before .before .before .before .before .lists-at .ensures) in
+    let a = c .before .before .before .before .before .before .before .before .before .before .before .before .before .before .before .before .before .args in
+    let h = lists-in _ _ (a .triples .now) (a .counts .now) _ _ _ (sym (c .before .before .before .before .before .before .before .before .before .lists-at .ensures .0) ∙ c .before .before .before .before .k .given .1) in
     simp length-take (omega arith)
 
 plan-lent-requires : tie.Need-plan-lent-requires

@@ -1,8 +1,9 @@
 -- `reasons` is safe and ends. Assumes nothing.
-use Prim.Native.Nat.{_-_}
+use mathlib.Core.Path.{sym, _∙_}
 use native.Mathlib.Omega.{arith}
 use borrow.Author.Needs.{needs}
 use lib.ListN.{length-take}
+use Rattle.exchange.proofs.Asking.{list-count, lists-in}
 use Rattle.table.proofs.operations.reasons.Statement.{statement}
 use Rattle.table.proofs.operations.reasons.Tie as tie
 
@@ -71,32 +72,38 @@ returns-4 c = search needs
 
 slice-reshare-prefix-read-reasons : tie.Need-slice-reshare-prefix-read-reasons
 slice-reshare-prefix-read-reasons c =
-    let h = rw (c .before .before .before .before .before .before .before .before .before .before .k .given .1) at (c .before .before .before .before .before .before .before .before .before .before .before .before .before .before .before .lists-at .ensures) in
+    let a = c .before .before .before .before .before .before .before .before .before .before .before .before .before .before .before .before .before .before .before .before .before .before .before .before .before .before .args in
+    let h = lists-in _ _ (a .triples .now) (a .counts .now) _ _ _ (sym (c .before .before .before .before .before .before .before .before .before .before .before .before .before .before .before .lists-at .ensures .0) ∙ c .before .before .before .before .before .before .before .before .before .before .k .given .1) in
     omega arith
 
 slice-aggregate-read-reasons : tie.Need-slice-aggregate-read-reasons
 slice-aggregate-read-reasons c =
-    let h = rw (c .before .before .before .before .before .before .before .before .before .before .before .k .given .1) at (c .before .before .before .before .before .before .before .before .before .before .before .before .before .before .before .before .lists-at .ensures) in
+    let a = c .before .before .before .before .before .before .before .before .before .before .before .before .before .before .before .before .before .before .before .before .before .before .before .before .before .before .before .args in
+    let h = lists-in _ _ (a .triples .now) (a .counts .now) _ _ _ (sym (c .before .before .before .before .before .before .before .before .before .before .before .before .before .before .before .before .lists-at .ensures .0) ∙ c .before .before .before .before .before .before .before .before .before .before .before .k .given .1) in
     simp length-take (omega arith)
 
 slice-reshare-prefix-read-reasons-2 : tie.Need-slice-reshare-prefix-read-reasons-2
 slice-reshare-prefix-read-reasons-2 c =
-    let h = rw (c .before .before .before .before .before .before .before .before .before .before .before .k .given .1) at (c .before .before .before .before .before .before .before .before .before .before .before .before .before .before .before .before .lists-at .ensures) in
+    let a = c .before .before .before .before .before .before .before .before .before .before .before .before .before .before .before .before .before .before .before .before .before .before .before .before .before .before .before .args in
+    let h = lists-in _ _ (a .triples .now) (a .counts .now) _ _ _ (sym (c .before .before .before .before .before .before .before .before .before .before .before .before .before .before .before .before .lists-at .ensures .0) ∙ c .before .before .before .before .before .before .before .before .before .before .before .k .given .1) in
     omega arith
 
 slice-aggregate-read-reasons-2 : tie.Need-slice-aggregate-read-reasons-2
 slice-aggregate-read-reasons-2 c =
-    let h = rw (c .before .before .before .before .before .before .before .before .before .before .before .before .k .given .1) at (c .before .before .before .before .before .before .before .before .before .before .before .before .before .before .before .before .before .lists-at .ensures) in
+    let a = c .before .before .before .before .before .before .before .before .before .before .before .before .before .before .before .before .before .before .before .before .before .before .before .before .before .before .before .before .args in
+    let h = lists-in _ _ (a .triples .now) (a .counts .now) _ _ _ (sym (c .before .before .before .before .before .before .before .before .before .before .before .before .before .before .before .before .before .lists-at .ensures .0) ∙ c .before .before .before .before .before .before .before .before .before .before .before .before .k .given .1) in
     simp length-take (omega arith)
 
 slice-reshare-prefix-read-reasons-3 : tie.Need-slice-reshare-prefix-read-reasons-3
 slice-reshare-prefix-read-reasons-3 c =
-    let h = rw (c .before .before .before .before .before .count .given .1) at (c .before .before .before .before .before .before .before .before .before .byte-list .ensures) in
+    let a = c .before .before .before .before .before .before .before .before .before .before .before .before .before .before .before .before .before .before .before .before .before .before .before .before .before .before .before .before .args in
+    let h = list-count _ _ _ (a .list .now) _ _ (sym (c .before .before .before .before .before .before .before .before .before .byte-list .ensures .0) ∙ c .before .before .before .before .before .count .given .1) in
     omega arith
 
 slice-aggregate-read-reasons-3 : tie.Need-slice-aggregate-read-reasons-3
 slice-aggregate-read-reasons-3 c =
-    let h = rw (c .before .before .before .before .before .before .count .given .1) at (c .before .before .before .before .before .before .before .before .before .before .byte-list .ensures) in
+    let a = c .before .before .before .before .before .before .before .before .before .before .before .before .before .before .before .before .before .before .before .before .before .before .before .before .before .before .before .before .before .args in
+    let h = list-count _ _ _ (a .list .now) _ _ (sym (c .before .before .before .before .before .before .before .before .before .before .byte-list .ensures .0) ∙ c .before .before .before .before .before .before .count .given .1) in
     simp length-take (omega arith)
 
 read-reasons-requires : tie.Need-read-reasons-requires

@@ -1,8 +1,9 @@
 -- `times` is safe and ends. Assumes nothing.
-use Prim.Native.Nat.{_-_}
+use mathlib.Core.Path.{sym, _∙_}
 use native.Mathlib.Omega.{arith}
 use borrow.Author.Needs.{needs}
 use lib.ListN.{length-take}
+use Rattle.exchange.proofs.Asking.{list-count, lists-in}
 use Rattle.table.proofs.operations.times.Statement.{statement}
 use Rattle.table.proofs.operations.times.Tie as tie
 
@@ -71,32 +72,38 @@ returns-4 c = search needs
 
 slice-reshare-prefix-read-timetable : tie.Need-slice-reshare-prefix-read-timetable
 slice-reshare-prefix-read-timetable c =
-    let h = rw (c .before .before .before .before .before .before .before .before .before .k .given .1) at (c .before .before .before .before .before .before .before .before .before .before .before .before .before .before .lists-at .ensures) in
+    let a = c .before .before .before .before .before .before .before .before .before .before .before .before .before .before .before .before .before .before .before .before .before .before .before .before .args in
+    let h = lists-in _ _ (a .triples .now) (a .counts .now) _ _ _ (sym (c .before .before .before .before .before .before .before .before .before .before .before .before .before .before .lists-at .ensures .0) ∙ c .before .before .before .before .before .before .before .before .before .k .given .1) in
     omega arith
 
 slice-aggregate-read-timetable : tie.Need-slice-aggregate-read-timetable
 slice-aggregate-read-timetable c =
-    let h = rw (c .before .before .before .before .before .before .before .before .before .before .k .given .1) at (c .before .before .before .before .before .before .before .before .before .before .before .before .before .before .before .lists-at .ensures) in
+    let a = c .before .before .before .before .before .before .before .before .before .before .before .before .before .before .before .before .before .before .before .before .before .before .before .before .before .args in
+    let h = lists-in _ _ (a .triples .now) (a .counts .now) _ _ _ (sym (c .before .before .before .before .before .before .before .before .before .before .before .before .before .before .before .lists-at .ensures .0) ∙ c .before .before .before .before .before .before .before .before .before .before .k .given .1) in
     simp length-take (omega arith)
 
 slice-reshare-prefix-read-timetable-2 : tie.Need-slice-reshare-prefix-read-timetable-2
 slice-reshare-prefix-read-timetable-2 c =
-    let h = rw (c .before .before .before .before .before .before .before .before .before .before .k .given .1) at (c .before .before .before .before .before .before .before .before .before .before .before .before .before .before .before .lists-at .ensures) in
+    let a = c .before .before .before .before .before .before .before .before .before .before .before .before .before .before .before .before .before .before .before .before .before .before .before .before .before .args in
+    let h = lists-in _ _ (a .triples .now) (a .counts .now) _ _ _ (sym (c .before .before .before .before .before .before .before .before .before .before .before .before .before .before .before .lists-at .ensures .0) ∙ c .before .before .before .before .before .before .before .before .before .before .k .given .1) in
     omega arith
 
 slice-aggregate-read-timetable-2 : tie.Need-slice-aggregate-read-timetable-2
 slice-aggregate-read-timetable-2 c =
-    let h = rw (c .before .before .before .before .before .before .before .before .before .before .before .k .given .1) at (c .before .before .before .before .before .before .before .before .before .before .before .before .before .before .before .before .lists-at .ensures) in
+    let a = c .before .before .before .before .before .before .before .before .before .before .before .before .before .before .before .before .before .before .before .before .before .before .before .before .before .before .args in
+    let h = lists-in _ _ (a .triples .now) (a .counts .now) _ _ _ (sym (c .before .before .before .before .before .before .before .before .before .before .before .before .before .before .before .before .lists-at .ensures .0) ∙ c .before .before .before .before .before .before .before .before .before .before .before .k .given .1) in
     simp length-take (omega arith)
 
 slice-reshare-prefix-read-timetable-3 : tie.Need-slice-reshare-prefix-read-timetable-3
 slice-reshare-prefix-read-timetable-3 c =
-    let h = rw (c .before .before .before .before .before .count .given .1) at (c .before .before .before .before .before .before .before .before .signed-list .ensures) in
+    let a = c .before .before .before .before .before .before .before .before .before .before .before .before .before .before .before .before .before .before .before .before .before .before .before .before .before .before .args in
+    let h = list-count _ _ _ (a .timetable .now) _ _ (sym (c .before .before .before .before .before .before .before .before .signed-list .ensures .0) ∙ c .before .before .before .before .before .count .given .1) in
     omega arith
 
 slice-aggregate-read-timetable-3 : tie.Need-slice-aggregate-read-timetable-3
 slice-aggregate-read-timetable-3 c =
-    let h = rw (c .before .before .before .before .before .before .count .given .1) at (c .before .before .before .before .before .before .before .before .before .signed-list .ensures) in
+    let a = c .before .before .before .before .before .before .before .before .before .before .before .before .before .before .before .before .before .before .before .before .before .before .before .before .before .before .before .args in
+    let h = list-count _ _ _ (a .timetable .now) _ _ (sym (c .before .before .before .before .before .before .before .before .before .signed-list .ensures .0) ∙ c .before .before .before .before .before .before .count .given .1) in
     simp length-take (omega arith)
 
 read-timetable-requires : tie.Need-read-timetable-requires

@@ -84,7 +84,7 @@ fn counts_of(p: Problem, set: u64) -> [u32; CLAUSES]
 }
 
 // The panel of a checked problem.
-pub fn panel_of(p: Problem) -> Panel
+fn panel_of(p: Problem) -> Panel
     requires { ⌜ Laid p ⌝ }
     ensures { λ r. ⌜ r ≡ panelOf (lit (clausesIn p)) ⌝ }
 {

@@ -269,7 +269,7 @@ fn reading(
 }
 
 // Whether the front of the list is one whole reading and all bytes after it are 255.
-pub fn is_reading(p: Problem, list: &[u8]) -> bool
+fn is_reading(p: Problem, list: &[u8]) -> bool
     requires { ⌜ Laid p ⌝ }
     ensures { λ r. ⌜ r ≡ isReading rowBytes (clausesIn p) (now (list .entry)) ⌝ }
 {
@@ -321,7 +321,7 @@ fn is_some_satisfied(p: Problem, times: &[i32], k: usize) -> bool
 }
 
 // Whether the first n times keep the problem.
-pub fn is_kept(p: Problem, times: &[i32]) -> bool
+fn is_kept(p: Problem, times: &[i32]) -> bool
     requires { ⌜ Laid p × (p .n ≤ length (now times)) ⌝ }
     ensures { λ r. ⌜ r ≡ keeps (timesOf (now (times .entry))) (clausesIn p) ⌝ }
 {

@@ -65,7 +65,7 @@ pub fn chosen_of(p: Problem, picks: [u8; 32]) -> Facts
 }
 
 // Whether clause d is dead: no alternative of it has a timetable together with the facts.
-pub fn is_dead(p: Problem, f: Facts, d: usize) -> bool
+fn is_dead(p: Problem, f: Facts, d: usize) -> bool
     requires { ⌜ Laid p × Ready p f × (d < p .m) ⌝ }
     ensures { λ r. ⌜ r ≡ dead sound (factsIn p f) (clauseOf p d) ⌝ }
 {

@@ -3,7 +3,7 @@
 use mathlib.Core.Path.{_≡_}
 use mathlib.Core.Bool.{Bool, true, false}
 use mathlib.Core.List.{List}
-use Prim.Native.Nat.{ℕ, _+_, _*_, _-_, _≤_}
+use Prim.Native.Nat.{ℕ, _*_, _-_, _≤_}
 use lib.ListN.{length, take, replicate}
 use Rattle.meaning.specs.Limits.{mostEvents, mostAlternatives, rowBytes, blankByte}
 use Rattle.meaning.specs.Problem.{Alternative}
@@ -11,14 +11,11 @@ use Rattle.meaning.specs.Decision.{sound, least}
 use Rattle.meaning.specs.Search.{cycle}
 use Rattle.meaning.specs.Reasons.{Writes}
 use Rattle.problem.specs.Arcs.{Net, bias, at, Known}
+pub use Rattle.problem.specs.Arcs.{places}
 
 -- no test from the extra source gives a time further before closing: as many arcs as lead to all the other events, each with the least bound of an opposite
 abbrev pub farthest : ℕ
 farthest = (mostEvents - 1) * bias
-
--- the places of a buffer of facts: one for each alternative or its opposite, and one for an arc that is tested with them
-abbrev pub places : ℕ
-places = mostAlternatives + 1
 
 -- the facts L are arcs of the net, over n events; and the net has no more arcs than there are alternatives and opposites
 pub record Within (g : Net) (L : List ℕ) (n : ℕ) : Type 0 where

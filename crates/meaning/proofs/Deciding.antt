@@ -14,8 +14,8 @@ use Rattle.laws.proofs.Differences.{above-is, below-is, Minus, below, above, mi
 use Rattle.meaning.specs.Problem.{Alternative, Timetable, satisfied, Satisfies, Sound}
 use Rattle.meaning.specs.Plain.{Latest}
 use Rattle.meaning.specs.Search.{Decides}
-use Rattle.meaning.specs.Decision.{ask, least, latestOf, reach, sound}
-use Rattle.meaning.proofs.Settling.{Each, each-map, each-map₃, In, Meets, at, total, total-has, rounds-length, least-under, sound-right, sound-whole}
+use Rattle.meaning.specs.Decision.{at, ask, least, latestOf, reach, sound}
+use Rattle.meaning.proofs.Settling.{Each, each-map, each-map₃, In, Meets, total, total-has, rounds-length, least-under, sound-right, sound-whole}
 
 -- a − b ≤ c is: what c asks of a is at most b
 ask-of : (a b : ℕ) (c : ℤ) → T (leZ (subℕ a b) c) → ask a c ≤ b

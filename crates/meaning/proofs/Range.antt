@@ -13,10 +13,10 @@ use lib.Signed.{_≤ℤ_}
 use Rattle.meaning.specs.Limits.{mostEvents, mostBound, longestDay}
 use Rattle.meaning.specs.Problem.{Alternative, Sound}
 use Rattle.meaning.specs.Plain.{timesOf}
-use Rattle.meaning.specs.Decision.{ask, least, timeOf, latestOf}
+use Rattle.meaning.specs.Decision.{at, ask, least, timeOf, latestOf}
 use Rattle.meaning.proofs.Accepted.{Bounded}
 use Rattle.meaning.proofs.Deciding.{at-latest, no-later, least-met, latest-is}
-use Rattle.meaning.proofs.Settling.{Each, each-map, each-map₃, In, Meets, at, tally, tally-none, tally-zero, tally-most, progress, lower, lowered, Lower, less, same, ask-less, ask-mono, least-under}
+use Rattle.meaning.proofs.Settling.{Each, each-map, each-map₃, In, Meets, tally, tally-none, tally-zero, tally-most, progress, lower, lowered, Lower, less, same, ask-less, ask-mono, least-under}
 
 -- a fact asks for at most W above
 abbrev pub Small : ℕ → Alternative → Type 0

@@ -10,10 +10,10 @@ use native.Mathlib.Decide.{decLt}
 use native.Mathlib.Omega.{arith, by-contra}
 use lib.Dec.{T, leb, ltb, leb→le, le→leb, ltb→lt, lt→ltb}
 use lib.IntN.{ℤ, pos, negsuc}
-use lib.ListN.{length, getD, set, length-set, replicate, length-replicate}
+use lib.ListN.{length, set, length-set, replicate, length-replicate}
 use mir.Facts.{yes-and, and-yes}
 use Rattle.meaning.specs.Problem.{Alternative}
-use Rattle.meaning.specs.Decision.{ask, raise, round, rounds, least, settled, soundBy}
+use Rattle.meaning.specs.Decision.{at, ask, raise, round, rounds, least, settled, soundBy}
 
 abbrev pub Each : (Alternative → Type 0) → List Alternative → Type 0
 Each P [] = Unit {0}
@@ -34,9 +34,6 @@ In n a = (a .x < n) × (a .y < n)
 -- the numbers, in minutes before closing, satisfy the alternative
 abbrev pub Meets : (ℕ → ℕ) → Alternative → Type 0
 Meets σ a = ask (σ (a .y)) (a .c) ≤ σ (a .x)
-
-abbrev pub at : List ℕ → ℕ → ℕ
-at s e = getD s e 0
 
 pub ask-mono : {m n : ℕ} (c : ℤ) → m ≤ n → ask m c ≤ ask n c
 unfolding ask

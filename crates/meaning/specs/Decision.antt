@@ -8,13 +8,17 @@ use lib.IntN.{ℤ, pos, negsuc, negℤ}
 use lib.ListN.{getD, set, replicate}
 use Rattle.meaning.specs.Problem.{Alternative}
 
+-- the element of a list of numbers, 0 past its end
+abbrev pub at : List ℕ → ℕ → ℕ
+at l i = getD l i 0
+
 -- how many minutes before closing x must lie at the least, with y at s
 unfoldable pub ask : ℕ → ℤ → ℕ
 ask s (pos k) = s - k
 ask s (negsuc k) = suc (s + k)
 
 unfoldable pub raise : List ℕ → Alternative → List ℕ
-raise s a = set s (a .x) (max (getD s (a .x) 0) (ask (getD s (a .y) 0) (a .c)))
+raise s a = set s (a .x) (max (at s (a .x)) (ask (at s (a .y)) (a .c)))
 
 unfoldable pub round : List Alternative → List ℕ → List ℕ
 round [] s = s
@@ -30,7 +34,7 @@ least n fs = rounds n fs (replicate n 0)
 
 unfoldable pub settled : List Alternative → List ℕ → Bool
 settled [] s = true
-settled (a ∷ more) s = leb (ask (getD s (a .y) 0) (a .c)) (getD s (a .x) 0) && settled more s
+settled (a ∷ more) s = leb (ask (at s (a .y)) (a .c)) (at s (a .x)) && settled more s
 
 unfoldable pub soundBy : ℕ → List Alternative → Bool
 soundBy n fs = settled fs (least n fs)

@@ -3,17 +3,14 @@
 use mathlib.Core.List.{List, [], _∷_}
 use Prim.Native.Nat.{ℕ, zero, suc, _+_, _*_, _<_}
 use lib.IntN.{subℕ}
-use lib.ListN.{length, getD}
-use Rattle.meaning.specs.Limits.{mostBound}
+use lib.ListN.{length}
+use Rattle.meaning.specs.Limits.{mostAlternatives, mostBound}
 use Rattle.meaning.specs.Problem.{Alternative, Clause}
+pub use Rattle.meaning.specs.Decision.{at}
 
 -- what is added to a bound, so that an opposite's is no less than 0
 abbrev pub bias : ℕ
 bias = mostBound + 1
-
--- the element of a list of numbers, 0 past its end
-abbrev pub at : List ℕ → ℕ → ℕ
-at l i = getD l i 0
 
 -- arc j leads from event ys j to event xs j; its bound is bs j less the bias
 pub record Net : Type 0 where
@@ -49,6 +46,10 @@ pub record Arc (g : Net) (n j : ℕ) : Type 0 where
 -- each number of the list is an arc's
 pub record Known (g : Net) (n : ℕ) (L : List ℕ) : Type 0 where
   pub each : (i : ℕ) → i < length L → Arc g n (at L i)
+
+-- the places of a buffer of facts: one for each alternative or its opposite, and one for an arc that is tested with them
+abbrev pub places : ℕ
+places = mostAlternatives + 1
 
 -- k arcs from number j on, as a clause
 unfoldable pub arcsFrom : Net → ℕ → ℕ → Clause

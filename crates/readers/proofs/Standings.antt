@@ -6,22 +6,22 @@ use native.Mathlib.Omega.{arith}
 use lib.ListN.{length, drop, set, length-drop}
 use Rattle.lent.proofs.Writing.{put-before}
 use Rattle.problem.specs.declared.Problem.{Problem}
-use Rattle.problem.specs.Arcs.{arc, Arc, Known}
+use Rattle.problem.specs.Arcs.{arc, Arc, Known, places}
 use Rattle.problem.specs.Laid.{arcs}
 use Rattle.problem.proofs.Knowing.{known-more}
-use Rattle.readers.specs.Standing.{room, factsFrom, Decided}
+use Rattle.readers.specs.Standing.{factsFrom, Decided}
 
-module _ (p : Problem) (buffer : List ℕ) (size : length buffer ≡ room) where
+module _ (p : Problem) (buffer : List ℕ) (size : length buffer ≡ places) where
   -- nothing is decided yet
-  pub undecided : Decided p 0 buffer room
+  pub undecided : Decided p 0 buffer places
   undecided =
       record {
         within = omega arith;
         few = omega arith;
-        known = record { each = λ i h. absurd (let e : length (drop room buffer) ≡ length buffer - room = length-drop room buffer in omega arith) };
+        known = record { each = λ i h. absurd (let e : length (drop places buffer) ≡ length buffer - places = length-drop places buffer in omega arith) };
       }
 
-  module _ (j from : ℕ) (d : Decided p j buffer from) (l : j < room) where
+  module _ (j from : ℕ) (d : Decided p j buffer from) (l : j < places) where
     -- one more decided, by the arc with number v
     pub facts-more : (v : ℕ) → factsFrom p (set buffer (from - 1) v) (from - 1) ≡ arc (arcs p) v ∷ factsFrom p buffer from
     facts-more v = ap (λ (L : List ℕ). map (arc (arcs p)) L) (put-before buffer from v (omega (arith, d .few)) (omega (arith, d .within)))

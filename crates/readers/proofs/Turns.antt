@@ -12,11 +12,11 @@ use Rattle.meaning.specs.Limits.{rowBytes, oppositeFrom}
 use Rattle.meaning.specs.Problem.{Alternative}
 use Rattle.meaning.specs.Reasons.{cycleOver, onward, kind, cycleRows, eachRead, read}
 use Rattle.problem.specs.declared.Problem.{Problem}
-use Rattle.problem.specs.Arcs.{at, arc, arcsFrom}
+use Rattle.problem.specs.Arcs.{at, arc, arcsFrom, places}
 use Rattle.problem.specs.Laid.{arcs, clauseOf, clausesFrom, Laid}
 use Rattle.readers.specs.declared.Next.{Next}
 use Rattle.readers.specs.declared.Next.the-variants.{Row, No}
-use Rattle.readers.specs.Standing.{room, factsFrom, Decided, Stands}
+use Rattle.readers.specs.Standing.{factsFrom, Decided, Stands}
 use Rattle.readers.specs.Leaves.{Reached, Answers, deadRows}
 use Rattle.readers.specs.Leaves as leaves
 use Rattle.readers.proofs.Clauses.{numbers, clauses-more}
@@ -37,12 +37,12 @@ pub record Passing (p : Problem) (rows : Rows) (k left : ℕ) (reads : Option Ro
   pub ends : end ≡ at (p .starts) (k + 1)
   pub most : j ≤ end
   pub reached : r ≤ length rows
-  pub size : length buffer ≡ room
+  pub size : length buffer ≡ places
   pub decided : Decided p j buffer from
   pub is : reads ≡ eachRead rowBytes (λ f r. deeper p k left f r) (arcsFrom (arcs p) j (end - j)) (factsFrom p buffer from) (drop r rows)
 
 module _ (p : Problem) (w : Laid p) (rows : Rows) (k left : ℕ) where
-  pub pass-start : (end j : ℕ) (buffer : List ℕ) (from row : ℕ) → length buffer ≡ room → Stands p k left buffer from → (left ≡ 0 → ⊥) → end ≡ at (p .starts) (k + 1) → j ≡ at (p .starts) k → row < length rows → kind rowBytes (getD rows row []) ≡ onward → Passing p rows k left (read rowBytes (clausesFrom p k left) k (factsFrom p buffer from) (drop row rows)) end j buffer from (row + 1)
+  pub pass-start : (end j : ℕ) (buffer : List ℕ) (from row : ℕ) → length buffer ≡ places → Stands p k left buffer from → (left ≡ 0 → ⊥) → end ≡ at (p .starts) (k + 1) → j ≡ at (p .starts) k → row < length rows → kind rowBytes (getD rows row []) ≡ onward → Passing p rows k left (read rowBytes (clausesFrom p k left) k (factsFrom p buffer from) (drop row rows)) end j buffer from (row + 1)
   pass-start end j buffer from row size s n e f h q =
       let a = s .all in
       let m : k < p .m = let o : 0 < left = pos-of-ne-zero n in omega arith in
@@ -110,14 +110,14 @@ pub record Testing (p : Problem) (rows : Rows) (d : ℕ) (reads : Option Rows) (
   pub ends : end ≡ at (p .starts) (d + 1)
   pub most : j ≤ end
   pub reached : r ≤ length rows
-  pub size : length buffer ≡ room
+  pub size : length buffer ≡ places
   pub before : ℕ
-  pub few : before < room
+  pub few : before < places
   pub decided : Decided p before buffer from
   pub is : reads ≡ cycleRows rowBytes (factsFrom p buffer from) (arcsFrom (arcs p) j (end - j)) (drop r rows)
 
 module _ (p : Problem) (w : Laid p) (rows : Rows) (d : ℕ) where
-  pub test-start : (k left end j : ℕ) (buffer : List ℕ) (from r : ℕ) → length buffer ≡ room → Stands p k left buffer from → k ≤ d → d < p .m → end ≡ at (p .starts) (d + 1) → j ≡ at (p .starts) d → r ≤ length rows → Testing p rows d (deadRows (clausesFrom p k left) k d (factsFrom p buffer from) (drop r rows)) end j buffer from r
+  pub test-start : (k left end j : ℕ) (buffer : List ℕ) (from r : ℕ) → length buffer ≡ places → Stands p k left buffer from → k ≤ d → d < p .m → end ≡ at (p .starts) (d + 1) → j ≡ at (p .starts) d → r ≤ length rows → Testing p rows d (deadRows (clausesFrom p k left) k d (factsFrom p buffer from) (drop r rows)) end j buffer from r
   test-start k left end j buffer from r size s l h e f o =
       let b = numbers p w d h in
       let z : suc d ≡ d + 1 = omega arith in

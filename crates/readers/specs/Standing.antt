@@ -3,15 +3,10 @@ use mathlib.Core.Path.{_≡_}
 use mathlib.Core.List.{List, map}
 use Prim.Native.Nat.{ℕ, _+_, _≤_}
 use lib.ListN.{drop}
-use Rattle.meaning.specs.Limits.{mostAlternatives}
 use Rattle.meaning.specs.Problem.{Alternative}
 use Rattle.problem.specs.declared.Problem.{Problem}
-use Rattle.problem.specs.Arcs.{at, arc, Known}
+use Rattle.problem.specs.Arcs.{at, arc, Known, places}
 use Rattle.problem.specs.Laid.{arcs}
-
--- one more than there are alternatives, so that the alternative of a dead clause has a place before them
-abbrev pub room : ℕ
-room = mostAlternatives + 1
 
 -- the facts that stand in the buffer from a place on
 abbrev pub factsFrom : Problem → List ℕ → ℕ → List Alternative
@@ -19,8 +14,8 @@ factsFrom p buffer from = map (arc (arcs p)) (drop from buffer)
 
 -- the first j alternatives are decided: no more facts than these stand in the buffer
 pub record Decided (p : Problem) (j : ℕ) (buffer : List ℕ) (from : ℕ) : Type 0 where
-  pub within : from ≤ room
-  pub few : room ≤ from + j
+  pub within : from ≤ places
+  pub few : places ≤ from + j
   pub known : Known (arcs p) (p .n) (drop from buffer)
 
 -- k clauses are chosen and `left` are to come

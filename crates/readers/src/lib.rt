@@ -16,10 +16,10 @@ ghost use Rattle.meaning.specs.Problem.{satisfied};
 ghost use Rattle.meaning.specs.Plain.{timesOf};
 ghost use Rattle.meaning.specs.Reasons.{numbers, blank, loops, cycleOver, kind, read, rowsOf, isReading};
 ghost use Rattle.meaning.specs.Verdicts.{some, keeps, reasonsVerdict, timetableVerdict};
-ghost use Rattle.problem.specs.Arcs.{bias, arc, Arc, Known};
+ghost use Rattle.problem.specs.Arcs.{bias, arc, Arc, Known, places};
 ghost use Rattle.problem.specs.Laid.{arcs, clauseOf, clausesFrom, clausesIn, Laid};
 ghost use Rattle.problem.specs.Reads.{given};
-ghost use Rattle.readers.specs.Standing.{room, factsFrom, Stands};
+ghost use Rattle.readers.specs.Standing.{factsFrom, Stands};
 ghost use Rattle.readers.specs.Leaves.{isIn, rowAt, kindOf, deadRows, Answers};
 
 // How many bytes a row has.
@@ -36,7 +36,7 @@ const DEAD_MARK: u8 = 200;
 const ARCS_END: u8 = 128;
 
 // How many numbers the buffer of a standing's facts holds.
-const ROOM: usize = ALTERNATIVES + 1;
+const PLACES: usize = ALTERNATIVES + 1;
 
 // The row after a reading, or a no.
 enum Next {
@@ -166,8 +166,8 @@ fn is_cycle(p: Problem, facts: &[u8], walked: &[u8]) -> bool
 }
 
 // Whether row number `row` of the list is a cycle row over the facts.
-fn cycle_at(p: Problem, facts: [u8; ROOM], from: usize, list: &[u8], row: usize) -> bool
-    requires { ⌜ Known (arcs p) (p .n) (drop from facts) × (from ≤ room) ⌝ }
+fn cycle_at(p: Problem, facts: [u8; PLACES], from: usize, list: &[u8], row: usize) -> bool
+    requires { ⌜ Known (arcs p) (p .n) (drop from facts) × (from ≤ places) ⌝ }
     ensures { λ r. ⌜ r ≡ cycleOver (factsFrom p facts from) (rowAt (now (list .entry)) row) ⌝ }
 {
     let bytes = row_at(list, row);
@@ -184,7 +184,7 @@ fn dead(
     list: &[u8],
     left: usize,
     k: usize,
-    facts: [u8; ROOM],
+    facts: [u8; PLACES],
     from: usize,
     d: usize,
     row: usize,
@@ -220,7 +220,7 @@ fn reading(
     list: &[u8],
     left: usize,
     k: usize,
-    facts: [u8; ROOM],
+    facts: [u8; PLACES],
     from: usize,
     row: usize,
 ) -> Next
@@ -273,9 +273,9 @@ fn is_reading(p: Problem, list: &[u8]) -> bool
     requires { ⌜ Laid p ⌝ }
     ensures { λ r. ⌜ r ≡ isReading rowBytes (clausesIn p) (now (list .entry)) ⌝ }
 {
-    let facts = [0; ROOM];
+    let facts = [0; PLACES];
     let m = p.m;
-    let a = reading(p, list, m, 0, facts, ROOM, 0);
+    let a = reading(p, list, m, 0, facts, PLACES, 0);
     match a {
         Next::No => false,
         Next::Row(r) => blank_from(list, r * ROW_BYTES),

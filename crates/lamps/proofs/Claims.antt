@@ -1,4 +1,4 @@
--- What the panel's equation says in the papers' words, and that two panels for one input are the same. Assumes nothing.
+-- What the panel's equation says in the papers' words. Assumes nothing.
 use mathlib.Core.Path.{_≡_, refl, sym, _∙_}
 use mathlib.Core.Logic.{_↔_}
 use mathlib.Core.Bool.{Bool, true, false, cond}

@@ -1,6 +1,5 @@
 // The rounds of a test: in a round each fact raises the time of its head, going by the times before the round.
 use crate::EVENTS;
-use lent::wide;
 ghost use mathlib.Core.Path.{_≡_};
 ghost use Prim.Native.Nat.{ℕ, _+_, _-_, _≤_, max};
 ghost use Rattle.meaning.specs.Limits.{mostEvents};
@@ -13,6 +12,13 @@ pub const BIAS: u32 = 100001;
 
 // A row for the start and one for each round.
 pub const ROWS: usize = EVENTS + 1;
+
+// A byte as an index.
+pub fn wide(x: u8) -> usize
+    ensures { λ r. ⌜ r ≡ x ⌝ }
+{
+    x as usize
+}
 
 // The later of two bounds on a time: old, and u - b where that is above it.
 fn raised(old: u32, u: u32, b: u32) -> u32

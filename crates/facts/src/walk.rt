@@ -3,7 +3,7 @@ use crate::BLANK;
 use crate::EVENTS;
 use crate::rounds::BIAS;
 use crate::rounds::ROWS;
-use lent::wide;
+use crate::rounds::wide;
 ghost use mathlib.Core.Path.{_≡_};
 ghost use mathlib.Core.List.{[]};
 ghost use Prim.Native.Nat.{ℕ, _+_, _≤_, _<_};

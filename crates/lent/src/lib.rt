@@ -9,13 +9,6 @@ ghost use Rattle.lent.specs.Sizes.{width, mostNegated, signedEnd};
 // How many numbers `put_negated` takes.
 pub const WIDTH: usize = 16;
 
-// A byte as an index.
-pub fn wide(x: u8) -> usize
-    ensures { λ r. ⌜ r ≡ x ⌝ }
-{
-    x as usize
-}
-
 // All numbers of the slice become v.
 pub fn fill_numbers(s: &mut [i32], v: i32)
     ensures { λ _. ⌜ now (s .exit) ≡ replicate (length (now (s .entry))) v ⌝ }

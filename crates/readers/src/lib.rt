@@ -1,6 +1,5 @@
 // The two readers: 01, "The list of reasons". Each is a witness beside the search and shares no code with it: the one reads a list of
 // reasons down one clause at a time, the other tests a timetable against every clause.
-use lent::wide;
 use meaning::Verdict;
 use problem::ALTERNATIVES;
 use problem::BIAS;
@@ -50,6 +49,13 @@ enum Mark {
     Onward,
     Bad,
     Dead(usize),
+}
+
+// A byte as an index.
+fn wide(x: u8) -> usize
+    ensures { λ r. ⌜ r ≡ x ⌝ }
+{
+    x as usize
 }
 
 // Whether a number is one of the facts.

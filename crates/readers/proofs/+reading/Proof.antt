@@ -22,7 +22,7 @@ use Rattle.readers.proofs.+reading.Lts-reading as reading-lts
 use Rattle.readers.proofs.cycle_at.Reads as cycle-at-reads
 use Rattle.readers.proofs.dead.Reads as dead-reads
 use Rattle.readers.proofs.mark_at.Reads as mark-at-reads
-use Rattle.lent.proofs.wide.Reads as wide-reads
+use Rattle.readers.proofs.wide.Reads as wide-reads
 use Rattle.readers.proofs.+reading.{statement}
 use Rattle.readers.proofs.+reading.Tie.{close}
 

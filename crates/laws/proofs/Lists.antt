@@ -1,10 +1,19 @@
--- What is left of a list that is one value throughout. Assumes nothing.
-use mathlib.Core.Path.{_≡_, _∙_, ap}
+-- What is left of a list that is one value throughout, and a part of a list. Assumes nothing.
+use mathlib.Core.Path.{_≡_, sym, _∙_, ap}
+use mathlib.Core.List.{List, [], _∷_}
 use Prim.Native.Nat.{ℕ, zero, suc, _-_}
 use native.Mathlib.Omega.{arith}
-use lib.ListN.{drop, replicate}
+use lib.ListN.{take, drop, replicate}
+use lib.Seq.{take-nil}
 
 pub drop-replicate : {A : Type 0} (n k : ℕ) (v : A) → drop n (replicate k v) ≡ replicate (k - n) v
 drop-replicate zero k v = let q : k ≡ k - 0 = omega arith in ap (λ (j : ℕ). replicate j v) q
 drop-replicate (suc n) zero v = let q : 0 ≡ 0 - suc n = omega arith in ap (λ (j : ℕ). replicate j v) q
 drop-replicate (suc n) (suc k) v = let q : k - n ≡ suc k - suc n = omega arith in drop-replicate n k v ∙ ap (λ (j : ℕ). replicate j v) q
+
+-- a part of a list, taken from either side first
+pub drop-take : {A : Type 0} (i k : ℕ) (l : List A) → drop i (take k l) ≡ take (k - i) (drop i l)
+drop-take zero k l = rw (let e : k - 0 ≡ k = omega arith in e)
+drop-take (suc i) zero l = rw (let e : 0 - suc i ≡ 0 = omega arith in e)
+drop-take (suc i) (suc k) [] = sym (take-nil (suc k - suc i))
+drop-take (suc i) (suc k) (x ∷ l) = rw (let e : suc k - suc i ≡ k - i = omega arith in e) (drop-take i k l)

@@ -9,8 +9,9 @@ use native.Mathlib.Decide.{decLt}
 use native.Mathlib.Omega.{arith}
 use lib.Dec.{T, ltb, ltb→lt, lt→ltb}
 use lib.ListN.{length, getD, take, drop, set, length-take, length-drop, drop-of-length-le}
-use lib.Seq.{take-nil, take-suc, drop-cons, getD-take, getD-drop, getD-set-same, getD-set-other, take-suc-set}
+use lib.Seq.{take-suc, drop-cons, getD-take, getD-drop, getD-set-same, getD-set-other, take-suc-set}
 use Rattle.laws.proofs.Tests.{is-true, is-false, never}
+use Rattle.laws.proofs.Lists.{drop-take}
 use Rattle.meaning.specs.Problem.{Clause}
 use Rattle.meaning.specs.Plain.{product, rank}
 use Rattle.meaning.specs.Search.{Standing, next, sideways}
@@ -101,12 +102,6 @@ module _ (p : Problem) (laid : Laid p) (picks : List ℕ) (k i : ℕ) (inside : 
               rw (getD-set-other picks i j (at picks i + 1) 0 (λ e. let q : j < i = n in omega arith)) (inside .each j (omega arith))
 
 -- ---- ranks and products by suffixes of the clauses
-pub drop-take : (i k : ℕ) (l : List ℕ) → drop i (take k l) ≡ take (k - i) (drop i l)
-drop-take zero k l = rw (let e : k - 0 ≡ k = omega arith in e)
-drop-take (suc i) zero l = rw (let e : 0 - suc i ≡ 0 = omega arith in e)
-drop-take (suc i) (suc k) [] = sym (take-nil (suc k - suc i))
-drop-take (suc i) (suc k) (x ∷ l) = rw (let e : suc k - suc i ≡ k - i = omega arith in e) (drop-take i k l)
-
 module _ (p : Problem) (laid : Laid p) where
   pub laid-short : (k c : ℕ) → k + c ≤ p .m → Short (clausesFrom p k c)
   unfolding clausesFrom

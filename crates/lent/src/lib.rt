@@ -44,7 +44,7 @@ pub fn put_bytes(s: &mut [u8], from: usize, bytes: &[u8])
 }
 
 // The number −m.
-fn negated(m: u32) -> i32
+pub fn negated(m: u32) -> i32
     requires { ⌜ m ≤ mostNegated ⌝ }
     ensures { λ r. ⌜ r ≡ negℤ (pos m) ⌝ }
 {

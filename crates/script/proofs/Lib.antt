@@ -1,0 +1,10 @@
+pub mod Answers
+pub mod Fitting
+pub mod Wording
+pub mod Declaring
+pub mod Taking
+pub mod Going
+pub mod Faults
+pub mod Accepting
+pub mod Clauses
+pub mod Fronts

@@ -62,3 +62,13 @@ panelText p =
 abbrev pub boundText : SliderAnswer → List ℕ
 boundText (SliderAnswer.Bound z) = (98 ∷ 111 ∷ 117 ∷ 110 ∷ 100 ∷ 32 ∷ []) ++ signedDecimal z
 boundText (SliderAnswer.Refused n) = refusedText n
+
+-- `problem N K t1 … tK M e1 … eM`
+abbrev pub problemText : ℕ → List ℤ → List ℕ → List ℕ
+problemText n triples counts =
+    (((((112 ∷ 114 ∷ 111 ∷ 98 ∷ 108 ∷ 101 ∷ 109 ∷ []) ++ next n) ++ next (length triples)) ++ led (map signedDecimal triples)) ++ next (length counts))
+    ++ led (map decimal counts)
+
+-- `refused NUMBER PLACE`
+abbrev pub refusedAtText : ℕ → ℕ → List ℕ
+refusedAtText number place = refusedText number ++ next place

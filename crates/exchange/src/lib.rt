@@ -6,6 +6,8 @@ pub use replies::put_answer;
 pub use replies::put_bound;
 pub use replies::put_lent;
 pub use replies::put_panel;
+pub use replies::put_problem;
+pub use replies::put_refused_at;
 pub use replies::put_verdict;
 pub use requests::Counted;
 pub use requests::Head;

@@ -2,7 +2,7 @@
 ghost use mathlib.Core.Path.{_≡_};
 ghost use mathlib.Core.List.{map};
 ghost use Rattle.dialogue.specs.Written.{written, writtenTo, decimal, led};
-ghost use Rattle.exchange.specs.Replies.{next, withTwo, withThree, refusedText, answerText, bar, lentText, verdictText, panelText, boundText};
+ghost use Rattle.exchange.specs.Replies.{next, withTwo, withThree, refusedText, answerText, bar, lentText, verdictText, panelText, boundText, problemText, refusedAtText};
 use dialogue::put;
 use dialogue::put_number;
 use meaning::Answer;
@@ -146,4 +146,26 @@ pub fn put_bound(reply: &mut [u8], answer: SliderAnswer) -> usize
         }
         SliderAnswer::Refused(number) => put_refused(reply, number),
     }
+}
+
+// The problem that a script says: its events, its triples and its clause counts, each list led by its length.
+pub fn put_problem(reply: &mut [u8], n: u32, triples: &[i32], counts: &[u32]) -> usize
+    ensures { λ _. ⌜ now (reply .exit) ≡ written (now (reply .entry)) 0 (problemText n (now (triples .entry)) (now (counts .entry))) ⌝ }
+    ensures { λ r. ⌜ r ≡ writtenTo (now (reply .entry)) 0 (problemText n (now (triples .entry)) (now (counts .entry))) ⌝ }
+{
+    let to = put(reply, 0, b"problem");
+    let to = put_next(reply, to, n as u64);
+    let to = put_next(reply, to, triples.len() as u64);
+    let to = dialogue::put_times(reply, to, triples);
+    let to = put_next(reply, to, counts.len() as u64);
+    dialogue::put_numbers(reply, to, counts)
+}
+
+// A script's refusal: its number and its place.
+pub fn put_refused_at(reply: &mut [u8], number: u8, place: usize) -> usize
+    ensures { λ _. ⌜ now (reply .exit) ≡ written (now (reply .entry)) 0 (refusedAtText number place) ⌝ }
+    ensures { λ r. ⌜ r ≡ writtenTo (now (reply .entry)) 0 (refusedAtText number place) ⌝ }
+{
+    let to = put_refused(reply, number);
+    put_next(reply, to, place as u64)
 }

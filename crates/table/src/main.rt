@@ -117,6 +117,9 @@ fn answer(
     if check::same(word, b"slide") {
         return operations::slide(line, at, reply);
     }
+    if check::same(word, b"script") {
+        return operations::script(line, at, reply, reasons);
+    }
     0
 }
 

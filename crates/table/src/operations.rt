@@ -1,5 +1,7 @@
-// The five requests: each reads the rest of its line from `at` on, calls the planner and writes the reply.
+// The six requests: each reads the rest of its line from `at` on, calls the planner and writes the reply.
 // Each answers how long the reply is; 0 where the line is malformed.
+ghost use Prim.Native.Nat.{_≤_};
+ghost use Rattle.meaning.specs.Limits.{mostAlternatives, mostClauses};
 use dialogue::Next;
 use dialogue::float_of;
 use dialogue::number_at;
@@ -13,8 +15,11 @@ use exchange::put_answer;
 use exchange::put_bound;
 use exchange::put_lent;
 use exchange::put_panel;
+use exchange::put_problem;
+use exchange::put_refused_at;
 use exchange::put_verdict;
 use exchange::signed_list;
+use script::Script;
 use slider::Kind;
 use slider::Travel;
 use slider::Use;
@@ -268,4 +273,32 @@ fn use_of(used: u32) -> Use {
         0 => Use::AtMost,
         _ => Use::AtLeast,
     }
+}
+
+// script L b1 … bL
+pub(crate) fn script(line: &[u8], at: usize, reply: &mut [u8], list: &mut [u8]) -> usize {
+    let Counted::Of { count, place } = byte_list(line, at, list) else {
+        return 0;
+    };
+    if place < line.len() {
+        return 0;
+    }
+    put_script(reply, planner::read_script(&list[..count]))
+}
+
+// What a script gives: the refusal, or the problem.
+fn put_script(reply: &mut [u8], script: Script) -> usize
+    requires { ⌜ (script .alternatives ≤ mostAlternatives) × (script .clauses ≤ mostClauses) ⌝ }
+{
+    if script.number != 0 {
+        return put_refused_at(reply, script.number, script.place);
+    }
+    let triples = script.triples;
+    let counts = script.counts;
+    put_problem(
+        reply,
+        script.n,
+        &triples[..3 * script.alternatives],
+        &counts[..script.clauses],
+    )
 }

@@ -126,8 +126,26 @@ same-length-18 c = search needs
 returns-5 : tie.Need-returns-5
 returns-5 c = search needs
 
+slice-aggregate-same-6 : tie.Need-slice-aggregate-same-6
+slice-aggregate-same-6 c = search needs
+
+same-requires-6 : tie.Need-same-requires-6
+same-requires-6 c κs = search needs
+
+script-requires : tie.Need-script-requires
+script-requires c κs = search needs
+
+same-length-19 : tie.Need-same-length-19
+same-length-19 c = search needs
+
+same-length-20 : tie.Need-same-length-20
+same-length-20 c = search needs
+
 returns-6 : tie.Need-returns-6
 returns-6 c = search needs
+
+returns-7 : tie.Need-returns-7
+returns-7 c = search needs
 
 pub answer-spec : {M : Type 1} → statement M
 answer-spec =
@@ -173,4 +191,10 @@ answer-spec =
     slide-requires
     same-length-18
     returns-5
-    returns-6)
+    slice-aggregate-same-6
+    same-requires-6
+    script-requires
+    same-length-19
+    same-length-20
+    returns-6
+    returns-7)

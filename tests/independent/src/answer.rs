@@ -1,10 +1,11 @@
 //! The answer to a request by the definitions, and its reply as the dialogue writes it.
 
-use crate::dialogue::{Asked, Request, Spaced};
+use crate::dialogue::{Asked, Parts, Request, Spaced};
 use crate::lamps::{dark, panel, Panel};
 use crate::plain::latest_timetable;
 use crate::problem::{Lent, Problem, Refusal, MOST_ALLOWANCE};
 use crate::reasons::{self, FILLING, ROW};
+use crate::script::{self, Refused};
 use crate::search::{search, Ending, Outcome, Row};
 use crate::slider::slide;
 use std::fmt::{self, Display};
@@ -16,6 +17,7 @@ pub enum Reply {
     Judged(Result<bool, Refusal>),
     Lamps(Refusal, Panel),
     Bound(Result<i64, Refusal>),
+    Script(Result<Lent, Refused>),
 }
 
 /// What the screen says, and every lent element afterwards.
@@ -53,6 +55,7 @@ pub fn answer(request: Option<&Request>) -> Reply {
             Err(number) => Reply::Lamps(number, dark()),
         },
         Some(Request::Slide { kind, position, used }) => Reply::Bound(slide(*kind, *position, *used)),
+        Some(Request::Script { text }) => Reply::Script(script::read(text)),
     }
 }
 
@@ -168,6 +171,8 @@ impl Display for Reply {
                 let Panel { lit, total, first, counts } = panel;
                 write!(f, "lamps {number} {lit} {total} {first} {}", Spaced(counts))
             }
+            Reply::Script(Ok(lent)) => write!(f, "problem {} {}", lent.events, Parts(lent)),
+            Reply::Script(Err(Refused { number, place })) => write!(f, "refused {number} {place}"),
         }
     }
 }

@@ -9,6 +9,7 @@ pub const MOST_TRIPLE_NUMBERS: usize = 256;
 pub const MOST_COUNTS: usize = 64;
 pub const MOST_TIMES: usize = 64;
 pub const MOST_REASONS: usize = 65_536;
+pub const LONGEST_SCRIPT: usize = 65_536;
 
 #[derive(Clone, Debug, PartialEq, Eq)]
 pub enum Request {
@@ -17,6 +18,7 @@ pub enum Request {
     Times { lent: Lent, times: Vec<i32> },
     Lamps { lent: Lent },
     Slide { kind: Kind, position: u32, used: Use },
+    Script { text: Vec<u8> },
 }
 
 /// A plan request: the problem, the allowance, and how many elements of each result are lent.
@@ -41,6 +43,7 @@ pub fn request(line: &[u8]) -> Option<Request> {
         b"times" => words.times()?,
         b"lamps" => Request::Lamps { lent: words.rest_of_lent(None)? },
         b"slide" => words.slide()?,
+        b"script" => Request::Script { text: words.bytes(LONGEST_SCRIPT)? },
         _ => return None,
     };
     words.left.is_none().then_some(request)
@@ -81,6 +84,11 @@ impl<'a> Words<'a> {
         (0..count).map(|_| number(self.next()?)).collect()
     }
 
+    /// A count, then as many bytes.
+    fn bytes(&mut self, most: usize) -> Option<Vec<u8>> {
+        self.counted(most, |word| unsigned(word, 255).map(|byte| byte as u8))
+    }
+
     /// The problem's parts after N; N itself where it was not read before.
     fn rest_of_lent(&mut self, events: Option<u32>) -> Option<Lent> {
         Some(Lent {
@@ -106,7 +114,7 @@ impl<'a> Words<'a> {
 
     fn reasons(&mut self) -> Option<Request> {
         let lent = self.rest_of_lent(None)?;
-        let list = self.counted(MOST_REASONS, |word| unsigned(word, 255).map(|byte| byte as u8))?;
+        let list = self.bytes(MOST_REASONS)?;
         Some(Request::Reasons { lent, list })
     }
 
@@ -202,6 +210,7 @@ impl Display for Request {
                 };
                 write!(f, "slide {number} {a} {b} {position} {}", u8::from(*used == Use::AtLeast))
             }
+            Request::Script { text } => write!(f, "script {}", Counted(text)),
         }
     }
 }
@@ -214,7 +223,7 @@ impl Display for Asked {
 }
 
 /// The problem's parts after N: the triples and the clause counts.
-struct Parts<'a>(&'a Lent);
+pub struct Parts<'a>(pub &'a Lent);
 
 impl Display for Parts<'_> {
     fn fmt(&self, f: &mut fmt::Formatter) -> fmt::Result {

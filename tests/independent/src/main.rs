@@ -1,5 +1,5 @@
 //! The independent program: makes requests, pipes them to the table's program, and compares every reply.
-//! It is written from paper 01 alone and shares no line with the planner.
+//! It is written from papers 01 and 02 alone and shares no line with the planner.
 
 mod answer;
 mod compare;
@@ -14,6 +14,9 @@ mod problem;
 mod random;
 mod reasons;
 mod requests;
+mod script;
+#[cfg(test)]
+mod script_tests;
 mod search;
 mod serve;
 mod slider;

@@ -231,7 +231,7 @@ fn lent_of(request: &mut Request) -> Option<&mut Lent> {
     match request {
         Request::Plan(asked) => Some(&mut asked.lent),
         Request::Reasons { lent, .. } | Request::Times { lent, .. } | Request::Lamps { lent } => Some(lent),
-        Request::Slide { .. } => None,
+        Request::Slide { .. } | Request::Script { .. } => None,
     }
 }
 

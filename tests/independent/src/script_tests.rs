@@ -1,0 +1,278 @@
+//! Scripts of 02, A1, with their problems and refusals, written by hand; and laws over random scripts.
+
+use crate::script::KEPT;
+use crate::serve::reply;
+
+/// Asks for a script by the dialogue.
+#[track_caller]
+fn says(text: impl AsRef<[u8]>, expected: &str) {
+    let text = text.as_ref();
+    let bytes: String = text.iter().map(|byte| format!(" {byte}")).collect();
+    assert_eq!(reply(format!("script {}{bytes}", text.len()).as_bytes()), expected, "{}", text.escape_ascii());
+}
+
+/// Refused with 20 at the place where the front ends and the rest begins.
+#[track_caller]
+fn refused_between(front: &str, rest: &str) {
+    says(format!("{front}{rest}"), &format!("refused 20 {}", front.len()));
+}
+
+/// Refused with 20 at the text's length.
+#[track_caller]
+fn breaks_off(text: &str) {
+    says(text, &format!("refused 20 {}", text.len()));
+}
+
+/// The commands between set-logic and check-sat make a whole script.
+fn whole(commands: &str) -> String {
+    format!("(set-logic QF_IDL)\n{commands}\n(check-sat)\n")
+}
+
+/// A script of two events, x and y, and these commands after them, up to the text's end.
+fn begun(commands: &str) -> String {
+    format!("(set-logic QF_IDL)(declare-const x Int)(declare-fun y () Int){commands}")
+}
+
+fn declarations(count: usize) -> String {
+    (0..count).map(|event| format!("(declare-fun e{event} () Int)\n")).collect()
+}
+
+const DAY_1: &str = "(set-logic QF_IDL)
+(declare-fun e0 () Int)
+(declare-fun e1 () Int)
+(assert (<= (- e0 e1) (- 30)))
+(check-sat)
+";
+
+#[test]
+fn day_1() {
+    says(DAY_1, "problem 2 3 0 1 -30 1 1");
+    says(DAY_1.trim_end(), "problem 2 3 0 1 -30 1 1");
+    for place in 0..DAY_1.len() - 1 {
+        breaks_off_or_names(&DAY_1[..place]);
+    }
+}
+
+/// A cut of D1's script: at its length, or at the first byte of a name that the cut leaves undeclared.
+#[track_caller]
+fn breaks_off_or_names(cut: &str) {
+    let undeclared = cut.ends_with("(- e") || cut.ends_with("(- e0 e");
+    says(cut, &format!("refused 20 {}", cut.len() - usize::from(undeclared)));
+}
+
+#[test]
+fn clauses_and_events() {
+    says(whole("(declare-const x Int)"), "problem 1 0 0");
+    says(whole("(declare-const x Int)(assert false)"), "problem 1 0 1 0");
+    says(whole("(assert false)(declare-const x Int)(assert false)"), "problem 1 0 2 0 0");
+    says(whole("(declare-const x Int)(assert (<= (- x x) 0))"), "problem 1 3 0 0 0 1 1");
+    says(begun("(assert (<= (- y x) (- 0)))(check-sat)"), "problem 2 3 1 0 0 1 1");
+    let two = "(or (<= (- x y) 1) (<= (- y x) (- 2)))";
+    let four = "(or (<= (- x y) 3) (<= (- y x) 4) (<= (- x x) 5) (<= (- y y) 6))";
+    says(
+        begun(&format!("(assert {two})(assert false)(assert {four})(check-sat)")),
+        "problem 2 18 0 1 1 1 0 -2 0 1 3 1 0 4 0 0 5 1 1 6 3 2 2 6",
+    );
+    let late = "(assert (<= (- x y) 1))(declare-fun z() Int)(assert (<= (- z y) 2))(check-sat)";
+    says(begun(late), "problem 3 6 0 1 1 2 1 2 2 1 2");
+}
+
+#[test]
+fn blanks() {
+    says("(set-logic QF_IDL)(declare-fun x()Int)(assert(<=(- x x)(- 3)))(check-sat)", "problem 1 3 0 0 -3 1 1");
+    says("(set-logic QF_IDL)(declare-const x Int)(assert(<=(- x x)5))(check-sat)", "problem 1 3 0 0 5 1 1");
+    says(begun("(assert(or(<=(- x y)1)(<=(- x y)2)))(check-sat)"), "problem 2 6 0 1 1 0 1 2 1 2");
+    let wide =
+        "\t( set-logic\rQF_IDL\n) ( declare-fun\tx ( ) Int ) ( assert ( <= ( - x x ) ( - 3 ) ) ) ( check-sat ) \t\r\n";
+    says(wide, "problem 1 3 0 0 -3 1 1");
+    says(wide.replace([' ', '\t'], ";;( \u{e9}\0\u{b}\r"), "problem 1 3 0 0 -3 1 1");
+    says(";\r;\n(set-logic;\nQF_IDL;\r)(declare-const;\nx;\nInt)(check-sat)", "problem 1 0 0");
+    says(begun("(assert (<= (-;\rx;\ny;\r) (-;\n3;\n)))(check-sat)"), "problem 2 3 0 1 -3 1 1");
+    for other in ["\u{b}", "\u{c}", "\0", "\u{a0}", "\u{7f}"] {
+        refused_between("(set-logic QF_IDL)", &format!("{other}(check-sat)"));
+        refused_between(&begun("(assert (<= (- x"), &format!("{other}y) 1))"));
+    }
+}
+
+#[test]
+fn a_comment_that_ends_with_the_text() {
+    says(format!("{DAY_1};"), "problem 2 3 0 1 -30 1 1");
+    says(format!("{DAY_1}; no line feed"), "problem 2 3 0 1 -30 1 1");
+    breaks_off(";");
+    breaks_off("(set-logic QF_IDL); no line feed");
+    breaks_off("(set-logic QF_IDL);\r");
+    breaks_off(&begun("(check-sat;)"));
+    breaks_off(&begun("(assert (<= (- x;y) 3))"));
+    refused_between(&format!("{DAY_1};\n"), ")");
+}
+
+#[test]
+fn the_first_byte_not_allowed() {
+    says("(set-logic QF_LIA)", "refused 20 14");
+    for (front, rest) in [
+        ("", "\u{feff}(set-logic QF_IDL)"),
+        ("(", ")"),
+        ("(", "check-sat)"),
+        ("(set-logic", "QF_IDL)"),
+        ("(set-logic QF_IDL", "E)"),
+        ("(set-logic QF_IDL)", ")"),
+    ] {
+        refused_between(front, rest);
+    }
+    for (front, rest) in [
+        ("(", "set-logic QF_IDL)"),
+        ("(", "exit)"),
+        ("(declare-", "sort z 0)"),
+        ("(declare-fun", "z () Int)"),
+        ("(declare-fun ", "0 () Int)"),
+        ("(declare-fun ", "|z| () Int)"),
+        ("(declare-fun z ", "Int)"),
+        ("(declare-fun z (", "Int) Int)"),
+        ("(declare-fun z () ", "Real)"),
+        ("(declare-fun z () Int", "s)"),
+        ("(declare-const z", "() Int)"),
+        ("(declare-const z ", "() Int)"),
+        ("(declare-const zInt", ")"),
+        ("(check-sat", "-assuming ())"),
+        ("(check-sat)", "(check-sat)"),
+        ("(check-sat) ; twice\n ", "(exit)"),
+    ] {
+        refused_between(&begun(front), rest);
+    }
+}
+
+#[test]
+fn asserts_that_are_not_allowed() {
+    for (front, rest) in [
+        ("(assert", "false)"),
+        ("(assert f", "or)"),
+        ("(assert false", "s)"),
+        ("(assert ", "true)"),
+        ("(assert ", "x)"),
+        ("(assert (", "and (<= (- x y) 1) (<= (- x y) 2)))"),
+        ("(assert (<", " (- x y) 1))"),
+        ("(assert (<=", "= (- x y) 1))"),
+        ("(assert (<= ", "x y))"),
+        ("(assert (<= (-", "x y) 1))"),
+        ("(assert (<= (- x", ") 1))"),
+        ("(assert (<= (- x y ", "x) 1))"),
+        ("(assert (<= (- x y)", "-1))"),
+        ("(assert (<= (- x y) (-", "1)))"),
+        ("(assert (<= (- x y) (- ", "(- 1))))"),
+        ("(assert (<= (- x y) 1 ", "2))"),
+        ("(assert (<= (- x y) 1", "x))"),
+        ("(assert (<= (- x y) 1", ".0))"),
+        ("(assert (<= (- x y) 0", "3))"),
+        ("(assert (<= (- x y) 0", "0))"),
+        ("(assert (<= (- x y) (- 0", "100001)))"),
+        ("(assert (or", ")"),
+        ("(assert (or (<= (- x y) 1)", "))"),
+        ("(assert (or ", "false (<= (- x y) 1)))"),
+        ("(assert (or (", "or (<= (- x y) 1) (<= (- x y) 1)) (<= (- x y) 1)))"),
+        ("(assert (or (<= (- x y) 1) (<= (- x y) 1) ", "x))"),
+        ("(assert (<= (- x y) 1) ", "(<= (- x y) 1))"),
+    ] {
+        refused_between(&begun(front), rest);
+    }
+    let four = "(<= (- x y) 1) ".repeat(4);
+    refused_between(&begun(&format!("(assert (or {four}")), "(<= (- x y) 1)))");
+}
+
+#[test]
+fn names() {
+    let every = "~!@$%^&*_-+=<>.?/azAZ0123456789";
+    says(format!("(set-logic QF_IDL)(declare-const {every} Int)(check-sat)"), "problem 1 0 0");
+    for near in ["Or", "orr", "<", "=", ">=", "--", "+", "int", "Integer", "true", "and", "__", "!!", "set-logics", "a"]
+    {
+        says(whole(&format!("(declare-const {near} Int)(assert (<= (- {near} {near}) 7))")), "problem 1 3 0 0 7 1 1");
+    }
+    for kept in KEPT {
+        refused_between(&begun("(declare-const "), &format!("{kept} Int)(check-sat)"));
+        refused_between(&begun("(declare-fun "), kept);
+        refused_between(&begun("(assert (<= (- x "), &format!("{kept}) 1))"));
+    }
+}
+
+#[test]
+fn long_names() {
+    let (longest, longer) = ("n".repeat(32), "n".repeat(33));
+    says(
+        whole(&format!("(declare-fun {longest} () Int)(assert (<= (- {longest} {longest}) 1))")),
+        "problem 1 3 0 0 1 1 1",
+    );
+    for rest in ["", " () Int)", "(", ")", "\0", "\u{e9}"] {
+        refused_between(&begun("(declare-fun "), &format!("{longer}{rest}"));
+    }
+    refused_between(&begun(&format!("(declare-const {longest} Int)(assert (<= (- ")), &format!("{longer} x) 1))"));
+    refused_between(&begun(&format!("(declare-const {longest} Int)(assert (<= (- ")), &format!("{} x", "n".repeat(31)));
+    breaks_off(&begun(&format!("(declare-const {longest}")));
+}
+
+#[test]
+fn undeclared_and_twice_declared() {
+    for rest in ["x", "x Int)", "x\0", "x)", "y"] {
+        refused_between(&begun("(declare-const "), rest);
+        refused_between(&begun("(declare-fun "), rest);
+    }
+    for rest in ["z y) 1))", "z", "z)", "z\0", "X y) 1))", "xy) 1))"] {
+        refused_between(&begun("(assert (<= (- "), rest);
+    }
+    refused_between(&begun("(assert (<= (- x "), "z)(");
+    refused_between(&begun("(assert (<= (- x y) 1))(assert (<= (- x "), "z) 100001)))");
+    breaks_off(&begun("(declare-const xx"));
+    breaks_off(&begun("(assert (<= (- x y"));
+    refused_between(&begun("(assert (<= (- x"), "\0");
+}
+
+#[test]
+fn sizes_of_events() {
+    says(whole(""), "refused 1 0");
+    says("(set-logic QF_IDL)(assert false)(check-sat) nothing more is read", "refused 1 0");
+    breaks_off("(set-logic QF_IDL)(check-sat");
+    says(whole(&declarations(16)), "problem 16 0 0");
+    says(whole(&declarations(17)), "refused 1 0");
+    let seventeen = format!("(set-logic QF_IDL){}", declarations(17).trim_end());
+    says(&seventeen, "refused 1 0");
+    breaks_off(&seventeen[..seventeen.len() - 1]);
+    refused_between(&seventeen[..seventeen.len() - 1], "s");
+    let (front, _) = seventeen.split_at(seventeen.len() - "e16 () Int)".len());
+    refused_between(front, "e15 () Int)");
+}
+
+#[test]
+fn sizes_of_clauses() {
+    let one = "(assert (<= (- x y) 1))";
+    let four = format!("(assert (or{}))", " (<= (- x y) 1)".repeat(4));
+    let check = |commands: String, expected: &str| says(begun(&format!("{commands}(check-sat)")), expected);
+    check("(assert false)".repeat(32), &format!("problem 2 0 32{}", " 0".repeat(32)));
+    check("(assert false)".repeat(33), "refused 2 0");
+    check(four.repeat(17), "refused 3 0");
+    check(format!("{}{one}", four.repeat(16)), "refused 3 0");
+    check(format!("{}{}{one}", "(assert false)".repeat(16), four.repeat(16)), "refused 2 0");
+    check(format!("{}{}{four}", "(assert false)".repeat(15), four.repeat(16)), "refused 3 0");
+    let full = format!("{}{}", "(assert false)".repeat(16), four.repeat(16));
+    let ends: String = (1..=16).map(|clause| format!(" {}", 4 * clause)).collect();
+    check(full.clone(), &format!("problem 2 192{} 32{}{ends}", " 0 1 1".repeat(64), " 0".repeat(16)));
+    breaks_off(&begun(&format!("{full}{}", &one[..one.len() - 1])));
+    refused_between(&begun(&format!("{full}{}", &one[..one.len() - 1])), "(");
+    refused_between(&begun(&format!("{full}(assert ")), "true)");
+}
+
+#[test]
+fn bounds() {
+    let check =
+        |bound: &str, expected: &str| says(begun(&format!("(assert (<= (- x y) {bound}))(check-sat)")), expected);
+    check("100000", "problem 2 3 0 1 100000 1 1");
+    check("(- 100000)", "problem 2 3 0 1 -100000 1 1");
+    for large in ["100001", "999999", "1000000", "4294967296", "18446744073709551616", &"9".repeat(30)] {
+        check(large, "refused 6 0");
+        check(&format!("(- {large})"), "refused 6 0");
+        for rest in ["", "x", "\0", "(", "."] {
+            says(begun(&format!("(assert (<= (- x y) {large}{rest}")), "refused 6 0");
+            says(begun(&format!("(assert (<= (- x y) (- {large}{rest}")), "refused 6 0");
+        }
+    }
+    check(&format!("1{}", "0".repeat(60_000)), "refused 6 0");
+    breaks_off(&begun("(assert (<= (- x y) 100000"));
+    breaks_off(&begun("(assert (<= (- x y) (- 0"));
+}

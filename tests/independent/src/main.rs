@@ -22,6 +22,10 @@ mod serve;
 mod slider;
 mod spoil;
 
+use requests::peers::Script;
+use std::fs;
+use std::io::{self, Write};
+use std::path::Path;
 use std::process::ExitCode;
 
 const USAGE: &str = "usage:
@@ -29,7 +33,9 @@ const USAGE: &str = "usage:
   independent --seed S --requests N --print              print the requests instead
   independent --answer [--spoil K]                       answer requests from standard input, spoiled in the K-th way
   independent --ways                                     name the ways of spoiling, one to a line
-  independent --bench EVENTS CLAUSES COUNT SEED ROOM     print plan requests for the figures";
+  independent --bench EVENTS CLAUSES COUNT SEED ROOM     print plan requests for the figures
+  independent --scripts EVENTS CLAUSES COUNT SEED FOLDER write scripts for solvers, and what each is to say
+  independent --long-script BYTES                        print one script of exactly so many bytes";
 
 fn main() -> ExitCode {
     let words: Vec<String> = std::env::args().skip(1).collect();
@@ -59,6 +65,15 @@ fn told(words: &[String]) -> Result<ExitCode, String> {
             number(seed)?,
             number(room)? as usize,
         )),
+        ["--scripts", events, clauses, count, seed, folder] => {
+            let (events, clauses) = (number(events)? as usize, number(clauses)? as usize);
+            written(requests::peers::scripts(events, clauses, number(count)? as usize, number(seed)?)?, folder)
+        }
+        ["--long-script", length] => {
+            let text = requests::peers::long_script(number(length)? as usize)?;
+            io::stdout().write_all(&text).map_err(|error| error.to_string())?;
+            Ok(ExitCode::SUCCESS)
+        }
         _ => Err("these words are not understood".into()),
     }
 }
@@ -82,6 +97,20 @@ fn printed(seed: u64, requests: usize) -> Result<ExitCode, String> {
 
 fn listed(lines: Vec<String>) -> Result<ExitCode, String> {
     serve::write_lines(lines.into_iter().map(String::into_bytes)).map_err(|error| error.to_string())?;
+    Ok(ExitCode::SUCCESS)
+}
+
+/// Writes each script as NUMBER.smt2, and beside it, as NUMBER.expected, what is to be said of it.
+fn written(scripts: Vec<Script>, folder: &str) -> Result<ExitCode, String> {
+    let write = |number: usize, end: &str, bytes: &[u8]| {
+        let path = Path::new(folder).join(format!("{number}.{end}"));
+        fs::write(&path, bytes).map_err(|error| format!("{}: {error}", path.display()))
+    };
+    fs::create_dir_all(folder).map_err(|error| format!("{folder}: {error}"))?;
+    for (number, script) in scripts.iter().enumerate() {
+        write(number, "smt2", &script.text)?;
+        write(number, "expected", format!("{}\n", script.expected).as_bytes())?;
+    }
     Ok(ExitCode::SUCCESS)
 }
 

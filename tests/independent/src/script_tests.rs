@@ -1,6 +1,10 @@
 //! Scripts of 02, A1, with their problems and refusals, written by hand; and laws over random scripts.
 
-use crate::script::KEPT;
+use crate::dialogue::Request;
+use crate::random::Random;
+use crate::requests::{peers, scripts};
+use crate::script::{self, Refused, KEPT, NOT_ALLOWED};
+use crate::search::{search, Ending};
 use crate::serve::reply;
 
 /// Asks for a script by the dialogue.
@@ -275,4 +279,81 @@ fn bounds() {
     check(&format!("1{}", "0".repeat(60_000)), "refused 6 0");
     breaks_off(&begun("(assert (<= (- x y) 100000"));
     breaks_off(&begun("(assert (<= (- x y) (- 0"));
+}
+
+/// The texts of random script requests.
+fn texts(seed: u64) -> Vec<Vec<u8>> {
+    let mut random = Random::new(seed);
+    let text = |_| match scripts::request(&mut random) {
+        Request::Script { text } => text,
+        other => panic!("no script: {other}"),
+    };
+    (0..3_000).map(text).collect()
+}
+
+/// A script reads as the problem that it was written from.
+#[test]
+fn scripts_read_as_their_problems() {
+    let mut random = Random::new(21);
+    for _ in 0..3_000 {
+        let (lent, text) = scripts::sound(&mut random);
+        assert_eq!(script::read(&text), Ok(lent), "{}", text.escape_ascii());
+    }
+}
+
+/// The scripts for solvers are of their size, and what is expected of them is what the search says.
+#[test]
+fn scripts_for_peers() {
+    for (events, clauses) in [(1, 0), (1, 3), (2, 32), (4, 10), (16, 32)] {
+        for script in peers::scripts(events, clauses, 50, 22).expect("within the sizes") {
+            let lent = script::read(&script.text).expect("a sound script");
+            assert_eq!((lent.events as usize, lent.counts.len()), (events, clauses));
+            let ending = search(&lent.accepted().expect("accepted"), 20_000, 0).ending;
+            assert_eq!(script.expected, if ending == Ending::NoPlan { "unsat" } else { "sat" });
+        }
+    }
+}
+
+/// The problem of a script that is read is accepted.
+#[test]
+fn read_problems_are_accepted() {
+    for lent in texts(23).iter().filter_map(|text| script::read(text).ok()) {
+        assert!(lent.accepted().is_ok());
+    }
+}
+
+/// Up to the place of a refusal the text could go on: cut there, it breaks off there or is whole.
+#[test]
+fn texts_could_go_on_up_to_the_place() {
+    for text in texts(24) {
+        if let Err(refused @ Refused { number: NOT_ALLOWED, place }) = script::read(&text) {
+            let cut = script::read(&text[..place]);
+            assert!(cut == Err(refused) || place < text.len() && cut.is_ok(), "{}", text.escape_ascii());
+        }
+    }
+}
+
+/// A refusal without a place is complete at one byte: from there on it stays, and before it the text breaks off.
+#[test]
+fn refusals_stay_once_complete() {
+    for text in texts(25).iter().filter(|text| text.len() < 1_000) {
+        if let Err(refused @ Refused { number: 1..=6, .. }) = script::read(text) {
+            let cuts: Vec<_> = (0..=text.len()).map(|place| script::read(&text[..place])).collect();
+            let complete = cuts.iter().take_while(|cut| **cut != Err(refused)).count();
+            let breaks_off = |cut: &Result<_, Refused>| cut.as_ref().is_err_and(|cut| cut.number == NOT_ALLOWED);
+            assert!(cuts[..complete].iter().all(breaks_off), "{}", text.escape_ascii());
+            assert!(cuts[complete..].iter().all(|cut| *cut == Err(refused)), "{}", text.escape_ascii());
+        }
+    }
+}
+
+#[test]
+fn long_scripts_have_their_length() {
+    for length in [200, 1_000, 4_096, 65_535, 65_536] {
+        let text = peers::long_script(length).expect("there is room");
+        assert_eq!(text.len(), length);
+        assert!(script::read(&text).is_ok());
+    }
+    assert!(peers::long_script(40).is_err());
+    assert!(peers::long_script(65_537).is_err());
 }

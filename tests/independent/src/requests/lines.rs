@@ -24,7 +24,7 @@ pub fn mangled(random: &mut Random, line: Vec<u8>) -> Vec<u8> {
 }
 
 /// Lines that are malformed, or nearly so, by themselves.
-const FIXED: [&[u8]; 22] = [
+const FIXED: [&[u8]; 28] = [
     b"",
     b" ",
     b"\0",
@@ -47,6 +47,12 @@ const FIXED: [&[u8]; 22] = [
     b"lamps -0 0 0",
     b"times 1 0 0 1 -0",
     b"slide 2 0 0 0 2",
+    b"script",
+    b"script 0",
+    b"script 0 ",
+    b"script 1",
+    b"script 1 256",
+    b"script 01 0059",
 ];
 
 /// Numbers that one type or another does not hold, and words that are no numbers.
@@ -139,6 +145,10 @@ fn change_count(random: &mut Random, words: &mut Words) {
             let long = if random.one_in(10) { random.among(&[65_536, 65_537]) } else { 16 };
             zeros("reasons 1", &[random.among(&[256, 257, 3]), random.among(&[1, 64, 65]), long])
         }
+        b"script" => {
+            let long = if random.one_in(10) { random.among(&[65_536, 65_537]) } else { 16 };
+            zeros("script", &[long])
+        }
         b"lamps" => zeros("lamps 1", &[random.among(&[255, 256, 257]), random.among(&[64, 65])]),
         _ => format!("slide {} 0 {} 0 {}", random.below(4), random.below(2), random.below(3)),
     };
@@ -158,7 +168,7 @@ fn zeros(front: &str, counts: &[usize]) -> String {
 
 fn change_name(random: &mut Random, words: &mut Words) {
     let names =
-        ["plan", "reasons", "times", "lamps", "slide", "Plan", "PLAN", "pla", "plans", "", "lamp", "none", "yes"];
+        ["plan", "reasons", "times", "lamps", "slide", "script", "Plan", "pla", "plans", "", "lamp", "none", "scripts"];
     words[0] = random.among(&names).into();
 }
 

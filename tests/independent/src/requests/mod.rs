@@ -2,11 +2,16 @@
 
 pub mod bench;
 mod days;
+mod drafts;
 mod lines;
 mod lists;
+mod names;
+pub mod peers;
 mod problems;
+pub mod scripts;
 mod sliders;
 mod spoiled;
+mod writing;
 
 pub use lists::closed_pair_not_below_0;
 
@@ -46,12 +51,13 @@ fn random_line(random: &mut Random) -> Vec<u8> {
 }
 
 fn random_request(random: &mut Random) -> Request {
-    match random.below(20) {
+    match random.below(27) {
         0..=9 => Request::Plan(plan(random)),
         10..=12 => reasons(random),
         13..=14 => times(random),
         15..=16 => lamps(random),
-        _ => sliders::request(random),
+        17..=19 => sliders::request(random),
+        _ => scripts::request(random),
     }
 }
 

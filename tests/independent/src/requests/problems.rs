@@ -82,7 +82,8 @@ fn apart(random: &mut Random, n: usize, l: i64) -> Triple {
     }
 }
 
-fn anywhere(random: &mut Random, n: usize, l: i64) -> Triple {
+/// An alternative between any two events, which may be one.
+pub fn anywhere(random: &mut Random, n: usize, l: i64) -> Triple {
     [random.below(n) as i32, random.below(n) as i32, random.between(-l, l) as i32]
 }
 
@@ -111,11 +112,28 @@ fn hard(random: &mut Random) -> Lent {
 }
 
 /// Up to three events and four clauses, empty clauses and x = y among them.
-fn tiny(random: &mut Random) -> Lent {
+pub fn tiny(random: &mut Random) -> Lent {
     let n = 1 + random.below(3);
     let m = random.below(5);
     let empty_too = random.one_in(4);
     let clauses: Vec<Vec<Triple>> = (0..m).map(|_| clause_of_any_size(random, empty_too, n, 3)).collect();
+    lent(n, &clauses)
+}
+
+/// Exactly so many events and clauses, of one to four alternatives; seldom an empty clause among them.
+pub fn of_size(random: &mut Random, n: usize, m: usize) -> Lent {
+    let l = random.among(&[5, 20, 100, 100, FARTHEST_BOUND]);
+    let most = random.among(&[1, 2, 2, 3, MOST_IN_CLAUSE]);
+    let mut clauses: Vec<Vec<Triple>> = Vec::new();
+    let mut left = MOST_ALTERNATIVES;
+    for clauses_left in (0..m).rev() {
+        let size = (1 + random.below(most)).min(left - clauses_left);
+        clauses.push((0..size).map(|_| if n > 1 { apart(random, n, l) } else { anywhere(random, n, l) }).collect());
+        left -= size;
+    }
+    if m > 0 && random.one_in(12) {
+        clauses[random.below(m)].clear();
+    }
     lent(n, &clauses)
 }
 

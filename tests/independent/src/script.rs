@@ -262,9 +262,8 @@ impl<'a> Reader<'a> {
             Some(b'1'..=b'9') => self.run(usize::MAX, |byte| byte.is_ascii_digit()),
             _ => return Err(self.not_allowed()),
         };
-        let too_large = FARTHEST_BOUND + 1;
-        let size = digits.iter().fold(0, |size, digit| too_large.min(10 * size + i64::from(digit - b'0')));
-        if size == too_large {
+        let size = digits.iter().fold(0, |size, digit| (10 * size + i64::from(digit - b'0')).min(FARTHEST_BOUND + 1));
+        if size > FARTHEST_BOUND {
             return Err(refused(6));
         }
         Ok(size as i32)

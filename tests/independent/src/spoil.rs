@@ -2,12 +2,14 @@
 
 use crate::answer::{accepted, answer, Answer, Reply, Screen};
 use crate::dialogue::{request, Request};
-use crate::problem::{Lent, Problem};
+use crate::problem::{Lent, Problem, Refusal};
 use crate::reasons::{whole_reading, FILLING, GOES_ON, ROW};
 use crate::requests::closed_pair_not_below_0;
+use crate::script::{Refused, NOT_ALLOWED};
 use crate::search::Row;
 use crate::serve;
 use crate::slider::Use;
+use std::ops::RangeInclusive;
 
 /// What a way changes: the line before it is read, the request, the reply, or the texts that are written.
 enum Way {
@@ -18,7 +20,7 @@ enum Way {
     Texts(fn(usize, String) -> Vec<String>),
 }
 
-const WAYS: [(&str, Way); 41] = [
+const WAYS: [(&str, Way); 55] = [
     ("visits one more", Way::Screen(|_, screen| change_numbers(screen, |visits, _, _| *visits += 1))),
     (
         "before one less",
@@ -77,6 +79,51 @@ const WAYS: [(&str, Way); 41] = [
             if let Request::Slide { used, .. } = request {
                 *used = Use::AtMost
             }
+        }),
+    ),
+    ("script: a place one more", Way::Reply(|_, reply| change_refused(reply, NOT_ALLOWED..=NOT_ALLOWED, next_place))),
+    ("script: a place with 1, 2, 3 or 6", Way::Reply(|_, reply| change_refused(reply, 1..=6, next_place))),
+    (
+        "script: a refusal's number one more",
+        Way::Reply(|_, reply| change_refused(reply, 1..=6, |refused| refused.number += 1)),
+    ),
+    (
+        "script: 20 for 1, 2, 3 or 6",
+        Way::Reply(|_, reply| change_refused(reply, 1..=6, |refused| refused.number = NOT_ALLOWED)),
+    ),
+    (
+        "script: a refusal for a problem",
+        Way::Reply(|_, reply| {
+            if let Reply::Script(read @ Ok(_)) = reply {
+                *read = Err(Refused { number: NOT_ALLOWED, place: 0 })
+            }
+        }),
+    ),
+    (
+        "script: a problem for a refusal",
+        Way::Reply(|_, reply| {
+            if let Reply::Script(read @ Err(_)) = reply {
+                *read = Ok(Lent::default())
+            }
+        }),
+    ),
+    ("script: events one more", Way::Reply(|_, reply| change_read(reply, |lent| lent.events += 1))),
+    ("script: an alternative's events exchanged", Way::Reply(|_, reply| change_read(reply, events_exchanged))),
+    ("script: the sign of a bound lost", Way::Reply(|_, reply| change_read(reply, sign_lost))),
+    (
+        "script: a count one more",
+        Way::Reply(|_, reply| change_read(reply, |lent| lent.counts.iter_mut().take(1).for_each(|count| *count += 1))),
+    ),
+    ("script: empty clauses left out", Way::Reply(|_, reply| change_read(reply, |lent| lent.counts.dedup()))),
+    ("script: the last clause forgotten", Way::Reply(|_, reply| change_read(reply, without_last_clause))),
+    (
+        "script: the last byte not read",
+        Way::Request(|request| change_text(request, |text| text.truncate(text.len().saturating_sub(1)))),
+    ),
+    (
+        "script: carriage returns taken as spaces",
+        Way::Request(|request| {
+            change_text(request, |text| text.iter_mut().filter(|byte| **byte == b'\r').for_each(|byte| *byte = b' '))
         }),
     ),
     ("a plus sign taken", Way::Line(|line| line.iter().copied().filter(|byte| *byte != b'+').collect())),
@@ -237,10 +284,15 @@ fn lent_of(request: &mut Request) -> Option<&mut Lent> {
 
 fn last_clause_forgotten(request: &mut Request) {
     if let Some(lent) = lent_of(request) {
-        if lent.accepted().is_ok() && lent.counts.pop().is_some() {
-            lent.triples.truncate(3 * lent.counts.last().map_or(0, |count| *count as usize));
+        if lent.accepted().is_ok() {
+            without_last_clause(lent);
         }
     }
+}
+
+fn without_last_clause(lent: &mut Lent) {
+    lent.counts.pop();
+    lent.triples.truncate(3 * lent.counts.last().map_or(0, |count| *count as usize));
 }
 
 fn last_bound_looser(request: &mut Request) {
@@ -274,5 +326,40 @@ fn next_refusal(reply: &mut Reply) {
 fn change_lamps(reply: &mut Reply, change: fn(&mut u64, &mut usize, &mut usize, &mut [usize; 32])) {
     if let Reply::Lamps(_, panel) = reply {
         change(&mut panel.lit, &mut panel.total, &mut panel.first, &mut panel.counts);
+    }
+}
+
+/// Changes the problem that was read of a script.
+fn change_read(reply: &mut Reply, change: fn(&mut Lent)) {
+    if let Reply::Script(Ok(lent)) = reply {
+        change(lent);
+    }
+}
+
+/// Changes a script's refusal, where its number is one of these.
+fn change_refused(reply: &mut Reply, numbers: RangeInclusive<Refusal>, change: fn(&mut Refused)) {
+    if let Reply::Script(Err(refused)) = reply {
+        if numbers.contains(&refused.number) {
+            change(refused);
+        }
+    }
+}
+
+fn next_place(refused: &mut Refused) {
+    refused.place += 1;
+}
+
+fn events_exchanged(lent: &mut Lent) {
+    lent.triples.chunks_mut(3).take(1).for_each(|triple| triple.swap(0, 1));
+}
+
+fn sign_lost(lent: &mut Lent) {
+    lent.triples.iter_mut().skip(2).step_by(3).for_each(|bound| *bound = bound.abs());
+}
+
+/// Changes the text of a script before it is read.
+fn change_text(request: &mut Request, change: fn(&mut Vec<u8>)) {
+    if let Request::Script { text } = request {
+        change(text);
     }
 }

@@ -1,9 +1,9 @@
-//! The lines that every run begins with: the days of 01 and their edges, a worked script, and the longest lines.
+//! The lines that every run begins with: the days of 01 and their edges, worked scripts, and the longest lines.
 
+use super::fixed_scripts;
 use super::lines::long_line;
 use super::lists::rows_of_the_search;
 use super::problems::{lent, Triple};
-use super::scripts;
 use super::sliders::bits_of;
 use crate::dialogue::{Asked, Request, LONGEST_LINE};
 use crate::problem::Lent;
@@ -15,7 +15,7 @@ pub fn lines() -> Vec<Vec<u8>> {
     requests.extend(lists());
     requests.extend(lamps());
     requests.extend(sliders());
-    requests.extend(scripts::worked());
+    requests.extend(fixed_scripts::requests());
     let mut lines: Vec<Vec<u8>> = requests.iter().map(|request| request.to_string().into_bytes()).collect();
     lines.push(long_line(LONGEST_LINE));
     lines.push(long_line(LONGEST_LINE + 1));

@@ -9,6 +9,8 @@ use crate::random::Random;
 pub enum Command {
     Declare(Name),
     Assert(Vec<Atom>),
+    /// An assert of an `or`, whatever the number of its atoms.
+    AssertOr(Vec<Atom>),
 }
 
 /// The difference of two names, and the bound as it is written: a numeral, negated or not.
@@ -103,12 +105,13 @@ pub fn spoil(random: &mut Random, commands: &mut Vec<Command>) {
     if commands.is_empty() {
         return;
     }
-    match random.below(12) {
+    match random.below(13) {
         0..=1 => spoil_declared_name(random, commands),
         2..=4 => spoil_used_name(random, commands),
         5..=8 => spoil_numeral(random, commands),
         9 => declare_again(random, commands),
-        10 => {
+        10 => spoil_or(random, commands),
+        11 => {
             let (one, other) = (random.below(commands.len()), random.below(commands.len()));
             commands.swap(one, other);
         }
@@ -127,7 +130,7 @@ fn spoil_declared_name(random: &mut Random, commands: &mut [Command]) {
 fn declared(command: &mut Command) -> Option<&mut Name> {
     match command {
         Command::Declare(name) => Some(name),
-        Command::Assert(_) => None,
+        Command::Assert(_) | Command::AssertOr(_) => None,
     }
 }
 
@@ -144,12 +147,22 @@ fn declare_again(random: &mut Random, commands: &mut Vec<Command>) {
 fn change_atom(random: &mut Random, commands: &mut [Command], change: fn(&mut Random, &mut Atom)) {
     let atoms = commands.iter_mut().flat_map(|command| match command {
         Command::Declare(_) => &mut [],
-        Command::Assert(atoms) => &mut atoms[..],
+        Command::Assert(atoms) | Command::AssertOr(atoms) => &mut atoms[..],
     });
     let mut atoms: Vec<&mut Atom> = atoms.collect();
     if !atoms.is_empty() {
         let chosen = random.below(atoms.len());
         change(random, atoms[chosen]);
+    }
+}
+
+/// Asserts an `or` of none to six atoms somewhere, all equal to one that is asserted.
+fn spoil_or(random: &mut Random, commands: &mut [Command]) {
+    let chosen = random.below(commands.len());
+    if let Command::Assert(atoms) = &mut commands[chosen] {
+        let atom = atoms.pop();
+        let count = random.among(&[0, 1, 1, 5, 5, 6]);
+        commands[chosen] = Command::AssertOr(atom.into_iter().cycle().take(count).collect());
     }
 }
 

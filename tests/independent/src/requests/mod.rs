@@ -3,6 +3,7 @@
 pub mod bench;
 mod days;
 mod drafts;
+mod fixed_scripts;
 mod lines;
 mod lists;
 mod names;

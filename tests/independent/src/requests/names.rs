@@ -6,7 +6,7 @@ use crate::script::{begins_name, stands_in_name, KEPT, LONGEST_NAME};
 pub type Name = Vec<u8>;
 
 /// Names that are no kept words, though parts of a script or near one.
-const NEAR: &str =
+pub const NEAR: &str =
     "Or OR o r orr and not true fals falsee False In int INT Ints Bool Real < = > <== >= =< -- -x -1 + +1 \
     __ _1 !! a ass As asserts asser Assert binary BINARYS decimal lets Let le matc p pars push1 pops resets reset- \
     set_logic set-logics set- QF_LIA QF_ID qf_idl check-sat- check-sa declare- declare-funs define-fun-re define- \
@@ -83,9 +83,9 @@ fn neighbour(random: &mut Random, name: &[u8]) -> Name {
     other
 }
 
-/// A name that a fault puts where this one stood: kept, too long, or near it.
+/// What a fault puts where this name stood: a kept word, a name too long or near it, or no name.
 pub fn faulty(random: &mut Random, name: &[u8]) -> Name {
-    match random.below(8) {
+    match random.below(9) {
         0..=1 => random.among(&KEPT).into(),
         2 => symbols(random, LONGEST_NAME + 1),
         3 => {
@@ -95,6 +95,7 @@ pub fn faulty(random: &mut Random, name: &[u8]) -> Name {
         }
         4 => name.iter().copied().cycle().take(LONGEST_NAME + random.below(2)).collect(),
         5 => some_word(random, NEAR),
+        6 => [&[random.among(b"0159")], name].concat(),
         _ => neighbour(random, name),
     }
 }

@@ -7,6 +7,7 @@ use super::writing::{tokens, write, Blanks, Comments, Tokens, Written};
 use crate::dialogue::{Request, LONGEST_SCRIPT};
 use crate::problem::Lent;
 use crate::random::Random;
+use crate::script::{self, NOT_ALLOWED};
 
 /// Tokens that a fault puts in: most are words of the grammar, the others of SMT-LIB or of none.
 const TOKENS: &str =
@@ -76,17 +77,21 @@ fn blanks(random: &mut Random, tokens: &Tokens) -> Blanks {
     }
 }
 
-/// Leaves out, doubles, exchanges, replaces or puts in one token.
+/// Leaves out, doubles, exchanges, replaces or puts in one token, or writes two as one.
 fn change_tokens(random: &mut Random, tokens: &mut Tokens) {
     let near_an_end = random.among(&[0, tokens.len() - 7]) + random.below(7);
     let place = if random.one_in(3) { near_an_end } else { random.below(tokens.len()) };
     let other = random.below(tokens.len());
-    match random.below(7) {
+    match random.below(8) {
         0..=1 => drop(tokens.remove(place)),
         2 => tokens.insert(place, tokens[place].clone()),
         3 => tokens.swap(place, place.saturating_sub(1)),
         4 => tokens.swap(place, other),
         5 => tokens[place] = some_word(random, TOKENS),
+        6 if place > 0 => {
+            let token = tokens.remove(place);
+            tokens[place - 1].extend(token);
+        }
         _ => tokens.insert(place, some_word(random, TOKENS)),
     }
 }
@@ -99,12 +104,13 @@ fn change_bytes(random: &mut Random, written: &mut Written) {
         return;
     }
     let inside = place.min(text.len() - 1);
-    match random.below(12) {
+    match random.below(13) {
         0..=3 => text.truncate(place),
         4..=5 => text[inside] = some_byte(random),
         6..=7 => drop(text.remove(inside)),
         8..=9 => text.insert(place, some_byte(random)),
         10 => text.swap(inside, inside.saturating_sub(1)),
+        11 => text.insert(place, random.among(b"\0\x0b\x0c\x1f\x85\xa0,")),
         _ => {
             let other = random.below(text.len());
             text.swap(inside, other);
@@ -112,15 +118,34 @@ fn change_bytes(random: &mut Random, written: &mut Written) {
     }
 }
 
-/// A place in the text: any, where a token ends, or one byte beside that.
+/// A place in the text: any, where a token ends or beside that, or near where a refusal is complete.
 fn place(random: &mut Random, written: &Written) -> usize {
     let length = written.text.len();
-    let place = match random.below(4) {
-        0..=1 => written.ends[random.below(written.ends.len())],
-        2 => written.ends[random.below(written.ends.len())] + 1 - 2 * random.below(2),
+    let place = match (random.below(6), refusal_place(&written.text)) {
+        (0..=1, Some(place)) => (place + random.below(7)).saturating_sub(3),
+        (0..=3, _) => written.ends[random.below(written.ends.len())],
+        (4, _) => written.ends[random.below(written.ends.len())] + 1 - 2 * random.below(2),
         _ => random.below(length + 1),
     };
     place.min(length)
+}
+
+/// The place of a refusal, or how much of the text must be there for one without a place.
+pub fn refusal_place(text: &[u8]) -> Option<usize> {
+    let refused = script::read(text).err()?;
+    if refused.number == NOT_ALLOWED {
+        return Some(refused.place);
+    }
+    let (mut without, mut with) = (0, text.len());
+    while without < with {
+        let middle = (without + with) / 2;
+        if script::read(&text[..middle]) == Err(refused) {
+            with = middle;
+        } else {
+            without = middle + 1;
+        }
+    }
+    Some(with)
 }
 
 fn some_byte(random: &mut Random) -> u8 {
@@ -129,24 +154,4 @@ fn some_byte(random: &mut Random) -> u8 {
     } else {
         random.among(BYTES)
     }
-}
-
-/// A script with something of each kind in it.
-const WORKED: &str = "; two gates\r(set-logic QF_IDL)\r\n(declare-fun e0 () Int) (declare-const e1 Int)
-(assert (<= (- e0 e1) (- 30)))\n(assert(or(<=(- e1 e0)100000);either\n(<= (- e0 e1) 0)))
-(assert false)\n(check-sat) ; end";
-
-/// The worked script whole, cut at every place, and with other bytes at every place.
-pub fn worked() -> Vec<Request> {
-    let whole = WORKED.as_bytes();
-    let mut texts = vec![whole.to_vec()];
-    for place in 0..whole.len() {
-        let (front, rest) = whole.split_at(place);
-        texts.push(front.to_vec());
-        texts.push([front, &rest[1..]].concat());
-        texts.push([front, b"\x80", rest].concat());
-        texts.push([front, b")", &rest[1..]].concat());
-        texts.push([front, b"0", rest].concat());
-    }
-    texts.into_iter().map(|text| Request::Script { text }).collect()
 }

@@ -44,7 +44,8 @@ pub fn tokens(random: &mut Random, commands: &[Command]) -> Tokens {
         match command {
             Command::Declare(name) if random.one_in(2) => declare(&mut tokens, "declare-fun", name, &["(", ")"]),
             Command::Declare(name) => declare(&mut tokens, "declare-const", name, &[]),
-            Command::Assert(atoms) => assert(&mut tokens, atoms),
+            Command::Assert(atoms) => assert(&mut tokens, atoms, atoms.len() > 1),
+            Command::AssertOr(atoms) => assert(&mut tokens, atoms, true),
         }
     }
     push(&mut tokens, &["(", "check-sat", ")"]);
@@ -62,16 +63,16 @@ fn declare(tokens: &mut Tokens, word: &str, name: &[u8], arguments: &[&str]) {
     push(tokens, &["Int", ")"]);
 }
 
-fn assert(tokens: &mut Tokens, atoms: &[Atom]) {
+fn assert(tokens: &mut Tokens, atoms: &[Atom], with_or: bool) {
     push(tokens, &["(", "assert"]);
-    match atoms {
-        [] => push(tokens, &["false"]),
-        [atom] => push_atom(tokens, atom),
-        _ => {
-            push(tokens, &["(", "or"]);
-            atoms.iter().for_each(|atom| push_atom(tokens, atom));
-            push(tokens, &[")"]);
-        }
+    if with_or {
+        push(tokens, &["(", "or"]);
+    } else if atoms.is_empty() {
+        push(tokens, &["false"]);
+    }
+    atoms.iter().for_each(|atom| push_atom(tokens, atom));
+    if with_or {
+        push(tokens, &[")"]);
     }
     push(tokens, &[")"]);
 }

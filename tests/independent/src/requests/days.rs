@@ -67,6 +67,7 @@ fn edges() -> Vec<Lent> {
         lent(16, &clauses(33, &[[15, 0, 0]])),
         lent(16, &clauses(16, &[[3, 4, 0]; 4])),
         lent(16, &clauses(17, &[[3, 4, 0]; 4])),
+        lent(16, &clauses(12, &[[3, 4, 0]; 5])),
         chain(),
         ring(),
         lowest(),

@@ -61,6 +61,7 @@ pub fn problem(random: &mut Random) -> Lent {
     }
 }
 
+/// No event, or around 16 of them and more, in few asserts.
 fn many_events(random: &mut Random) -> Lent {
     let events = random.among(&[0, MOST_EVENTS, MOST_EVENTS + 1, MOST_EVENTS + 1, MOST_EVENTS + 2, 40]);
     let count = random.below(4);

@@ -12,7 +12,7 @@ use mir.Facts.{and-yes, or-yes, leb-yes, ltb-yes, eqb-yes, eqb-no, yes-and}
 use borrow.Author.Tests.{lt-leb, ne-eqb, eq-eqb}
 use lib.Dec.{T, leb, ltb, eqb}
 use lib.ListN.{getD}
-use Rattle.laws.proofs.Tests.{is-true, never}
+use Rattle.laws.proofs.Tests.{is-true, Passed, never}
 use Rattle.laws.proofs.Order.{lt-or-ge}
 use Rattle.grammar.specs.Grammar.{bytes, among, Role, other, newName, firstName, secondName, boundDigit, negatedDigit, declarationEnd, assertEnd, checkEnd, roleNo, Kind, exactly, space, lineEnd, inComment, symbolFirst, symbolByte, digit, leadingDigit, isA, spelled, blank, gap, parting, opening, closingAs, symbolAs, numeralAs, bound, difference, atom, optional, held, declared, command, setLogic, checkSat, Grammar, none, empty, one, _then_, _either_, many, script}
 use Rattle.grammar.specs.Place.{ends, live, follow, isNone, choose, after, roleOf, placeFrom}
@@ -101,10 +101,6 @@ markOf s = getD marks s (0, 0, 0, [])
 unfoldable all : List Bool → Bool
 all [] = true
 all (b ∷ more) = b && all more
-
-abbrev Passed : List Bool → Type 0
-Passed [] = Unit {0}
-Passed (b ∷ more) = T b × Passed more
 
 all-pass : (bs : List Bool) → T (all bs) → Passed bs
 unfolding all

@@ -9,6 +9,7 @@ use lib.Dec.{T, leb, ltb, eqb, leb→le, ltb→lt, eqb→eq}
 use lib.IntN.{ℤ, pos, negsuc, natAbs}
 use lib.ListN.{length, getD, take, drop, length-take, length-drop}
 use mir.Facts.{and-yes}
+pub use Rattle.laws.proofs.Tests.{Passed}
 use Rattle.meaning.specs.Limits.{mostEvents, mostClauses, mostInClause, mostAlternatives, mostBound}
 use Rattle.meaning.specs.Problem.{Alternative, Clause}
 use Rattle.meaning.specs.Plain.{Selection, nowhere, chosen}
@@ -17,10 +18,6 @@ use Rattle.meaning.proofs.Settling.{Each, In}
 use Rattle.meaning.proofs.Rows.{Short}
 
 -- ---- tests that are all passed
-abbrev pub Passed : List Bool → Type 0
-Passed [] = Unit {0}
-Passed (b ∷ more) = T b × Passed more
-
 pub all-passed : (i : ℕ) (bs : List Bool) → 0 < i → firstFailed i bs ≡ 0 → Passed bs
 unfolding firstFailed
 all-passed i [] l e = tt

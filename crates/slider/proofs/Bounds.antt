@@ -1,22 +1,21 @@
--- The bound that `floor_of` makes of a number's parts is the floor of the number, and its negative is what "at least" takes. Assumes nothing.
-use mathlib.Core.Path.{_≡_, refl, sym, ap, _∙_}
+-- The bound that `limited` makes of a number's parts is what the use takes of the number. Assumes nothing.
+use mathlib.Core.Path.{_≡_, refl, sym, ap, _∙_, subst}
 use Prim.Native.Nat.{ℕ, _+_, _*_, _/_, _%_, _^_, _≤_, _<_, min}
 use native.Mathlib.Nat.{mul-one, add-zero, min-le-right, min-eq-left}
 use native.Mathlib.Omega.{arith}
-use mathlib.Core.Bool.{Bool, true, false, not}
+use mathlib.Core.Bool.{Bool, true, false, not, _&&_}
 use lib.Dec.{T, leb, eqb, leb→le, nleb→lt, lit≤}
-use lib.IntN.{ℤ, negℤ, natAbs}
-use lib.Ieee.{Float, nan, inf, fin, up, down}
+use lib.Ieee.{Float, nan, inf, fin, up, down, unlike}
 use lib.Ieee.Fits.{down-pos}
 use borrow.Author.Tests.{eqb-true, eqb-false, le-leb, lt-leb}
-use Rattle.slider.specs.declared.Split.{Split}
 use Rattle.slider.specs.declared.Use.{Use}
 use Rattle.slider.specs.declared.Use.the-variants.{AtMost, AtLeast}
 use Rattle.slider.specs.Readings.{signed, pick}
-use Rattle.slider.specs.Slider.{Outcome, bound, unread, tooFar, told, floor, taken, boundLimit, kept, fixedGives}
-use Rattle.slider.specs.Steps.{cap, splitOf, Given, turnedRound}
-use Rattle.slider.proofs.Whole.{abs-signed, abs-neg}
+use Rattle.slider.specs.Slider.{bound, unread, tooFar, floor, taken, boundLimit, kept, fixedGives}
+use Rattle.slider.specs.Steps.{cap, splitOf, limitedGives, roundedGives}
+use Rattle.slider.proofs.Whole.{abs-signed}
 use Rattle.slider.proofs.Floor.{floor-cut, floor-exact}
+use Rattle.slider.proofs.Ceiling.{least-floor}
 
 -- ---- a size and a sign
 pub far-refused : (s : Bool) (n : ℕ) → boundLimit < n → kept (signed s n) ≡ tooFar
@@ -42,61 +41,57 @@ capped s n a = go (leb n cap) (leb→le n cap) (nleb→lt n cap)
 capped-whole : (s : Bool) (n : ℕ) → kept (signed s (min n cap)) ≡ kept (signed s n)
 capped-whole s n = ap (λ (m : ℕ). kept (signed s m)) (sym (add-zero (min n cap))) ∙ capped s n 0 ∙ ap (λ (m : ℕ). kept (signed s m)) (add-zero n)
 
--- ---- the parts of a number
-abbrev pub outcomeOf : Bool → Bool → Bool → ℕ → Outcome
-outcomeOf false neg cut whole = unread
-outcomeOf true false cut whole = kept (signed false whole)
-outcomeOf true true false whole = kept (signed true whole)
-outcomeOf true true true whole = kept (signed true (whole + 1))
+-- ---- the parts of a number, rounded
+-- which way a use rounds
+abbrev pub roundsUp : Use → Bool
+roundsUp AtMost = false
+roundsUp AtLeast = true
 
-abbrev pub outcomeOfSplit : Split → Outcome
-outcomeOfSplit p = outcomeOf (p .finite) (p .neg) (p .cut) (p .whole)
+capped-gives : (s more : Bool) (n : ℕ) → limitedGives s (min n cap) more ≡ limitedGives s n more
+capped-gives s true n = capped s n 1
+capped-gives s false n = capped-whole s n
 
-pub split-gives : (x : Float) → outcomeOfSplit (splitOf 0 x) ≡ fixedGives AtMost x
+-- t says whether n / D is whole
+record IsWhole (n D : ℕ) (t : Bool) : Type 0 where
+  pub no-rest : t ≡ true → n % D ≡ 0
+  pub a-rest : t ≡ false → n % D ≡ 0 → ⊥
+
+-- The floor of ± n / D: its whole part, and one more where it is negative and not whole.
+floor-rounded : (s t : Bool) (n D : ℕ) → 0 < D → IsWhole n D t → floor (signed s n) D ≡ signed s (pick (not t && s) (n / D + 1) (n / D))
+floor-rounded false true n D P w = refl
+floor-rounded false false n D P w = refl
+floor-rounded true true n D P w = floor-exact n D P (w .no-rest refl)
+floor-rounded true false n D P w = floor-cut n D P (w .a-rest refl)
+
+-- What a use takes of ± n / D. "At least" takes the floor of ∓ n / D: the other sign, and one more where that sign is negative and there is a rest.
+taken-rounded : (u : Use) (s t : Bool) (n D : ℕ) → 0 < D → IsWhole n D t
+    → taken u (signed s n) D ≡ signed (unlike s (roundsUp u)) (pick (not t && unlike s (roundsUp u)) (n / D + 1) (n / D))
+taken-rounded AtMost true t n D P w = floor-rounded true t n D P w
+taken-rounded AtMost false t n D P w = floor-rounded false t n D P w
+taken-rounded AtLeast true t n D P w = least-floor true n D ∙ floor-rounded false t n D P w
+taken-rounded AtLeast false t n D P w = least-floor false n D ∙ floor-rounded true t n D P w
+
+pub split-gives : (u : Use) (x : Float) → splitOf 0 x .finite ≡ true → roundedGives (roundsUp u) (splitOf 0 x) ≡ fixedGives u x
 unfolding splitOf fixedGives
-split-gives nan = refl
-split-gives (inf s) = refl
-split-gives (fin s m e) =
-    ap (λ (n : ℕ). outcomeOf true s (not (eqb (n % down e) 0)) (min (n / down e) cap)) (mul-one (m * up e))
-    ∙ go s (eqb (m * up e % down e) 0) (eqb-true (m * up e % down e) 0) (eqb-false (m * up e % down e) 0)
-  where
-    n : ℕ
-    n = m * up e
+split-gives u nan f = absurd (subst T (sym f) tt)
+split-gives u (inf s) f = absurd (subst T (sym f) tt)
+split-gives u (fin s m e) f =
+    let n = m * up e in
+    let D = down e in
+    let t = eqb (n % D) 0 in
+    let r = unlike s (roundsUp u) in
+    ap (λ (k : ℕ). limitedGives r (min (k / D) cap) (not (eqb (k % D) 0) && r)) (mul-one n)
+    ∙ capped-gives r (not t && r) (n / D)
+    ∙ ap kept (sym (taken-rounded u s t n D (down-pos e) (record { no-rest = eqb-true (n % D) 0; a-rest = eqb-false (n % D) 0 })))
 
-    go : (s t : Bool) → (t ≡ true → n % down e ≡ 0) → (t ≡ false → n % down e ≡ 0 → ⊥) → outcomeOf true s (not t) (min (n / down e) cap) ≡ kept (floor (signed s n) (down e))
-    go false t y z = capped-whole false (n / down e)
-    go true true y z = capped-whole true (n / down e) ∙ ap kept (sym (floor-exact n (down e) (down-pos e) (y refl)))
-    go true false y z = capped true (n / down e) 1 ∙ ap kept (sym (floor-cut n (down e) (down-pos e) (z refl)))
+pub not-finite-unread : (u : Use) (x : Float) → splitOf 0 x .finite ≡ false → fixedGives u x ≡ unread
+unfolding splitOf fixedGives
+not-finite-unread u nan f = refl
+not-finite-unread u (inf s) f = refl
+not-finite-unread u (fin s m e) f = absurd (subst T f tt)
 
 pub whole-le : (j : ℕ) (x : Float) → splitOf j x .whole ≤ cap
 unfolding splitOf
 whole-le j nan = lit≤ tt
 whole-le j (inf s) = lit≤ tt
 whole-le j (fin s m e) = min-le-right (m * up e * 2 ^ j / down e) cap
-
--- ---- the turned-round pair
-kept-turned : (z : ℤ) → turnedRound (told (kept z)) ≡ told (kept (negℤ z))
-kept-turned z = go (leb (natAbs z) boundLimit) ∙ ap (λ (n : ℕ). told (pick (leb n boundLimit) (bound (negℤ z)) tooFar)) (sym (abs-neg z))
-  where
-    go : (t : Bool) → turnedRound (told (pick t (bound z) tooFar)) ≡ told (pick t (bound (negℤ z)) tooFar)
-    go true = refl
-    go false = refl
-
-pub at-least : (x : Float) → turnedRound (told (fixedGives AtMost x)) ≡ told (fixedGives AtLeast x)
-unfolding fixedGives
-at-least nan = refl
-at-least (inf s) = refl
-at-least (fin s m e) = kept-turned (floor (signed s (m * up e)) (down e))
-
-kept-given : (z : ℤ) → Given (told (kept z))
-kept-given z = go (leb (natAbs z) boundLimit) (leb→le (natAbs z) boundLimit)
-  where
-    go : (t : Bool) → (T t → natAbs z ≤ boundLimit) → Given (told (pick t (bound z) tooFar))
-    go true h = h tt
-    go false h = tt
-
-pub fixed-given : (u : Use) (x : Float) → Given (told (fixedGives u x))
-unfolding fixedGives
-fixed-given u nan = tt
-fixed-given u (inf s) = tt
-fixed-given u (fin s m e) = kept-given (taken u (signed s (m * up e)) (down e))

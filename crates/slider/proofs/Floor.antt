@@ -1,6 +1,6 @@
 -- The floor of a fraction: equal fractions have one floor, and a negative fraction's by its whole part and its rest. Assumes nothing.
 use mathlib.Core.Path.{_≡_, sym, ap, _∙_, subst, refl}
-use Prim.Native.Nat.{ℕ, zero, suc, _+_, _*_, _/_, _%_, _≤_, _<_, suc-le-suc}
+use Prim.Native.Nat.{ℕ, zero, suc, _+_, _*_, _/_, _%_, _≤_, _<_, zero-le, suc-le-suc}
 use native.Mathlib.Nat.{le-of-suc-le-suc, le-trans, le-of-eq, lt-of-le-of-lt, lt-of-lt-of-le, mul-right-comm, mul-le-mul-right, mul-lt-mul-of-pos-right, le-of-mul-le-mul-right, lt-of-mul-lt-mul-right, div-mul-le-self, lt-div-mul-add, div-eq-of-lt-le, div-add-mod', mod-lt, mod-eq-of-lt, zero-div, zero-mul, mul-one, div-one, suc-mul, mul-pos, zero-lt-suc, le-div-iff-mul-le, div-lt-iff-lt-mul, ne-of-gt}
 use native.Mathlib.Numerals.{add-one}
 use native.Mathlib.Omega.{arith}
@@ -61,7 +61,7 @@ floor-exact n D P z = floor-same true n D (n / D) 1 P (zero-lt-suc 0) (mul-one n
     by-one zero = refl
     by-one (suc q) = ap negsuc (div-one q)
 
--- ---- the largest whole number not above the fraction
+-- ---- the largest whole number not above the fraction: q is not above it exactly when q is not above the floor
 neg-le : (m n : ℕ) → n < m → T (leZ (negℤ (pos m)) (negsuc n))
 neg-le zero n h = absurd (none n h)
   where
@@ -73,9 +73,15 @@ le-neg : (m n : ℕ) → T (leZ (negℤ (pos m)) (negsuc n)) → n < m
 le-neg zero n t = absurd t
 le-neg (suc m) n t = (let h : n ≤ m = leb→le n m t in omega arith)
 
-pub floor-below : (z : ℤ) (d : ℕ) → 0 < d → (floor z d *ℤ pos d) ≤ℤ z
-floor-below (pos n) d D = record { le = le→leb (n / d * d) n (div-mul-le-self n d) }
-floor-below (negsuc n) d D = record { le = neg-le (suc (n / d) * d) n (lt-of-lt-of-le (lt-div-mul-add D) (le-of-eq (sym (suc-mul (n / d) d)))) }
+neg-le-pos : (m n : ℕ) → T (leZ (negℤ (pos m)) (pos n))
+neg-le-pos zero n = le→leb 0 n zero-le
+neg-le-pos (suc m) n = tt
+
+pub floor-below : (z : ℤ) (d : ℕ) (q : ℤ) → 0 < d → q ≤ℤ floor z d → (q *ℤ pos d) ≤ℤ z
+floor-below (pos n) d (pos q) D h = record { le = le→leb (q * d) n (le-div-iff-mul-le D .0 (leb→le q (n / d) (h .le))) }
+floor-below (pos n) d (negsuc q) D h = record { le = neg-le-pos (suc q * d) n }
+floor-below (negsuc n) d (pos q) D h = absurd (h .le)
+floor-below (negsuc n) d (negsuc q) D h = record { le = neg-le (suc q * d) n (div-lt-iff-lt-mul D .0 (suc-le-suc (leb→le (n / d) q (h .le)))) }
 
 pub floor-above : (z : ℤ) (d : ℕ) (q : ℤ) → 0 < d → (q *ℤ pos d) ≤ℤ z → q ≤ℤ floor z d
 floor-above (pos n) d (pos q) D h = record { le = le→leb q (n / d) (le-div-iff-mul-le D .1 (leb→le (q * d) n (h .le))) }

@@ -2,6 +2,7 @@
 pub mod Whole
 pub mod Word
 pub mod Floor
+pub mod Ceiling
 pub mod Exactly
 pub mod Readings
 pub mod Bits

@@ -1,11 +1,11 @@
--- Rate: the floor of work / position in binary32 is that of the fraction of 01, and 10 where the position is 0. Assumes nothing.
+-- Rate: what a use takes of work / position in binary32 is what it takes of the fraction of 01, and 10 where the position is 0. Assumes nothing.
 use mathlib.Core.Path.{_≡_, refl, sym, ap, _∙_, subst}
 use Prim.Native.Nat.{ℕ, zero, suc, _*_, _≤_, _<_}
-use native.Mathlib.Nat.{mul-assoc, mul-comm, mul-left-comm, mul-one, mul-pos, mul-le-mul-left, zero-mul, zero-div, zero-lt-suc, suc-ne-zero, ne-of-gt}
+use native.Mathlib.Nat.{mul-assoc, mul-comm, mul-left-comm, mul-one, mul-pos, mul-le-mul-left, zero-mul, zero-lt-suc, suc-ne-zero, ne-of-gt}
 use native.Mathlib.Omega.{arith}
 use mathlib.Core.Bool.{Bool, true, false, _&&_, _||_, Bool·beq, cond}
 use lib.Dec.{T, eqb, lit<, lit≤, eqb·suc-zero}
-use lib.IntN.{ℤ, pos, negsuc, negℤ, natAbs, _*ℤ_, pos-ne-negsuc}
+use lib.IntN.{ℤ, pos, negsuc, natAbs, _*ℤ_, pos-ne-negsuc}
 use lib.Signed.{nonNeg}
 use lib.Ieee.{Float, nan, inf, fin, up, down, binary32, unlike, round, div, eq, level, ofBits}
 use lib.Ieee.Fits.{up-pos, down-pos}
@@ -13,14 +13,13 @@ use lib.Ieee.Exact.{HasValue}
 use lib.Ieee.Scale.{round-same}
 use borrow.Author.Tests.{eqb-true, eqb-false}
 use Rattle.slider.specs.declared.Use.{Use}
-use Rattle.slider.specs.declared.Use.the-variants.{AtMost, AtLeast}
 use Rattle.slider.specs.Readings.{workLimit, grid, signed, Reading, at, off, reading, workOf, positionOf}
-use Rattle.slider.specs.Slider.{unread, atZero, taken, kept, bounded, rateGives, fixedGives}
+use Rattle.slider.specs.Slider.{unread, atZero, kept, bounded, rateGives, fixedGives}
 use Rattle.slider.specs.Steps.{isAt}
 use Rattle.slider.proofs.Bits.{same-bool, no-product}
 use Rattle.slider.proofs.Exactly.{Val, rounded, size-of}
-use Rattle.slider.proofs.Readings.{at-of, read-val, within-at, allowed-le, allowed-pos, position-not-below, fixed-val}
-use Rattle.slider.proofs.Quotient.{quotient-floor}
+use Rattle.slider.proofs.Readings.{at-of, read-val, within-at, allowed-le, allowed-pos, position-not-below, taken-same, fixed-val}
+use Rattle.slider.proofs.Quotient.{quotient-taken}
 
 -- ---- the division
 -- a number above 0 has no sign
@@ -85,28 +84,24 @@ zero-div-val (fin s m e) (fin t (suc n) d) k v w =
     zero-is false = refl
 
 -- the bound of 01 for work / position
-pub rate-floor : (u : Use) (work p : Float) (w : ℤ) (k : ℕ) → workOf work ≡ at w → positionOf p ≡ at (pos (suc k))
+pub rate-taken : (u : Use) (work p : Float) (w : ℤ) (k : ℕ) → workOf work ≡ at w → positionOf p ≡ at (pos (suc k))
     → fixedGives u (div binary32 work p) ≡ bounded u (pos grid *ℤ w) (suc k)
-rate-floor u work p w k ew ek =
+rate-taken u work p w k ew ek =
     let ww = within-at false workLimit (reading 1 work) w ew in
     let wk = within-at false grid (reading grid p) (pos (suc k)) ek in
     go w (read-val 1 work w (ww .0)) (allowed-le false workLimit w (ww .1)) (allowed-pos workLimit w (ww .1))
     (plain-val p k grid (read-val grid p (pos (suc k)) (wk .0))) (allowed-le false grid (pos (suc k)) (wk .1))
   where
-    none : (u : Use) → taken u (pos 0) 1 ≡ taken u (pos 0) (suc k)
-    none AtMost = ap pos (sym (zero-div (suc k)))
-    none AtLeast = ap (λ (n : ℕ). negℤ (pos n)) (sym (zero-div (suc k)))
-
     some : (w k : ℕ) → suc k ≤ grid → suc k ≤ grid * suc w
     some w k h = omega arith
 
     go : (w : ℤ) → Val work w 1 → natAbs w ≤ workLimit → T (nonNeg w) → HasValue p false (suc k) grid → suc k ≤ grid
         → fixedGives u (div binary32 work p) ≡ bounded u (pos grid *ℤ w) (suc k)
     go (pos zero) v l s h b =
-        fixed-val u (div binary32 work p) (pos 0) 1 (lit< tt) (zero-div-val work p k v h) ∙ ap kept (none u)
+        fixed-val u (div binary32 work p) (pos 0) 1 (lit< tt) (zero-div-val work p k v h) ∙ ap kept (taken-same u false 0 1 0 (suc k) (lit< tt) (zero-lt-suc k) (zero-mul (suc k)))
     go (pos (suc w)) v l s h b =
         ap (fixedGives u) (div-is work p (suc w) (suc k) (zero-lt-suc k) (plain-val work w 1 v) h)
-        ∙ quotient-floor u (grid * suc w) (suc k) (zero-lt-suc k) b (some w k b) (mul-le-mul-left grid l)
+        ∙ quotient-taken u (grid * suc w) (suc k) (zero-lt-suc k) b (some w k b) (mul-le-mul-left grid l)
     go (negsuc w) v l s h b = absurd s
 
 -- ---- a position that equals 0.0
@@ -163,7 +158,7 @@ rate-read u work p a b z =
     go : (k : ℕ) → positionOf p ≡ at (pos k) → (k ≡ 0 → ⊥) → (w : ℤ) → workOf work ≡ at w → fixedGives u (div binary32 work p) ≡ rateGives u (workOf work) (positionOf p)
     go zero e n w f = absurd (n refl)
     go (suc k) e n w f =
-        rate-floor u work p w k f e
+        rate-taken u work p w k f e
         ∙ sym (ap (λ (r : Reading). rateGives u r (positionOf p)) f ∙ ap (λ (r : Reading). rateGives u (at w) r) e)
 
 pub work-unread : (u : Use) (w k : Reading) → isAt w ≡ false → rateGives u w k ≡ unread

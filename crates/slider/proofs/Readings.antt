@@ -3,9 +3,9 @@ use mathlib.Core.Path.{_≡_, refl, sym, ap, _∙_, subst}
 use Prim.Native.Nat.{ℕ, _+_, _*_, _/_, _%_, _≤_, _<_}
 use native.Mathlib.Nat.{div-add-mod'}
 use native.Mathlib.Omega.{arith}
-use mathlib.Core.Bool.{Bool, true, false, _||_}
+use mathlib.Core.Bool.{Bool, true, false, not, _||_}
 use lib.Dec.{T, leb, eqb, leb→le}
-use lib.IntN.{ℤ, negsuc, negℤ, natAbs}
+use lib.IntN.{ℤ, negsuc, natAbs}
 use lib.Signed.{nonNeg}
 use lib.Ieee.{Float, nan, inf, fin, up, down}
 use lib.Ieee.Fits.{down-pos, and-l, and-r}
@@ -16,6 +16,7 @@ use Rattle.slider.specs.Readings.{grid, signed, Reading, at, off, pick, 
 use Rattle.slider.specs.Slider.{taken, kept, bounded, fixedGives}
 use Rattle.slider.specs.Steps.{isAt}
 use Rattle.slider.proofs.Floor.{floor-same}
+use Rattle.slider.proofs.Ceiling.{least-floor}
 use Rattle.slider.proofs.Exactly.{Val, own-sign}
 
 -- ---- readings
@@ -77,9 +78,9 @@ pub position-not-below : (p : Float) (k : ℕ) → positionOf p ≡ at (negsuc k
 position-not-below p k e = allowed-pos grid (negsuc k) (within-at false grid (reading grid p) (negsuc k) e .1)
 
 -- ---- a value's answer
-taken-same : (u : Use) (s : Bool) (n D a d : ℕ) → 0 < D → 0 < d → n * d ≡ a * D → taken u (signed s n) D ≡ taken u (signed s a) d
+pub taken-same : (u : Use) (s : Bool) (n D a d : ℕ) → 0 < D → 0 < d → n * d ≡ a * D → taken u (signed s n) D ≡ taken u (signed s a) d
 taken-same AtMost s n D a d P Q h = floor-same s n D a d P Q h
-taken-same AtLeast s n D a d P Q h = ap negℤ (floor-same s n D a d P Q h)
+taken-same AtLeast s n D a d P Q h = least-floor s n D ∙ floor-same (not s) n D a d P Q h ∙ sym (least-floor s a d)
 
 pub fixed-val : (u : Use) (x : Float) (z : ℤ) (d : ℕ) → 0 < d → Val x z d → fixedGives u x ≡ bounded u z d
 unfolding fixedGives

@@ -61,7 +61,7 @@ inOrder false atzero rest = unread
 inOrder true true rest = atZero
 inOrder true false rest = rest
 
--- Every answer of every kind is 9, else 10, else the bound for its value, which is 11 exactly where the bound lies outside its limit (`kept`).
+-- Every answer of every kind is 9, else 10, else the bound for its value, which is 11 exactly where the bound, rounded as its use takes it, lies outside its limit (`kept`).
 pub refusals-in-order : (kind : Kind) (position : Float) (used : Use)
     → sliderGives kind position used ≡ inOrder (allRead kind position) (rateAtZero kind position) (bounded used (numerator kind position) (denominator kind position))
 unfolding allRead rateAtZero isFinite isZero wholeOf numerator denominator sliderGives spanGives rateGives fixedGives

@@ -1,4 +1,4 @@
--- Span: low + (high - low) * position is exact in binary32, so its floor is that of the fraction of 01. Assumes nothing.
+-- Span: low + (high - low) * position is exact in binary32, so what a use takes of it is what it takes of the fraction of 01. Assumes nothing.
 use mathlib.Core.Path.{_≡_, refl, sym, ap, _∙_, subst}
 use Prim.Native.Nat.{ℕ, _+_, _*_, _^_, _≤_, _<_}
 use native.Mathlib.Nat.{le-refl, mul-comm, mul-right-comm, mul-le-mul, mul-one}
@@ -32,9 +32,9 @@ in-parts (fin s m e) z v =
     same false = refl
 
 -- no step leaves 24 digits: |high - low| ≤ 8,192, its product with k ≤ 256 is at most 2 ^ 21, and the sum stays below 2 ^ 24
-pub span-floor : (u : Use) (low high p : Float) (l h k : ℤ) → endOf low ≡ at l → endOf high ≡ at h → positionOf p ≡ at k
+pub span-taken : (u : Use) (low high p : Float) (l h k : ℤ) → endOf low ≡ at l → endOf high ≡ at h → positionOf p ≡ at k
     → fixedGives u (add binary32 low (mul binary32 (sub binary32 high low) p)) ≡ bounded u (pos grid *ℤ l +ℤ (h -ℤ l) *ℤ k) grid
-span-floor u low high p l h k el eh ek =
+span-taken u low high p l h k el eh ek =
     let wl = within-at true endLimit (reading 1 low) l el in
     let wh = within-at true endLimit (reading 1 high) h eh in
     let wk = within-at false grid (reading grid p) k ek in
@@ -70,7 +70,7 @@ span-read u low high p a b c =
     let l = at-of (endOf low) a in
     let h = at-of (endOf high) b in
     let k = at-of (positionOf p) c in
-    span-floor u low high p (l .0) (h .0) (k .0) (l .1) (h .1) (k .1)
+    span-taken u low high p (l .0) (h .0) (k .0) (l .1) (h .1) (k .1)
     ∙ sym (ap (λ (r : Reading). spanGives u r (endOf high) (positionOf p)) (l .1)
     ∙ ap (λ (r : Reading). spanGives u (at (l .0)) r (positionOf p)) (h .1)
     ∙ ap (λ (r : Reading). spanGives u (at (l .0)) (at (h .0)) r) (k .1))

@@ -1,11 +1,12 @@
--- Whole numbers by sign and size: their sums, products and sizes. Assumes nothing.
+-- Whole numbers by sign and size: their sums, products, order and sizes. Assumes nothing.
 use mathlib.Core.Path.{_≡_, refl, sym, ap, _∙_}
-use Prim.Native.Nat.{ℕ, zero, suc, _+_, _-_, _*_, _≤_, _<_}
-use native.Mathlib.Nat.{le-refl, zero-mul, mul-zero, add-zero, sub-zero}
+use Prim.Native.Nat.{ℕ, zero, suc, _+_, _-_, _*_, _≤_, _<_, zero-le, suc-le-suc}
+use native.Mathlib.Nat.{le-refl, le-of-suc-le-suc, zero-mul, mul-zero, add-zero, sub-zero}
 use native.Mathlib.Omega.{arith}
 use mathlib.Core.Bool.{Bool, true, false, not, cond}
-use lib.Dec.{T, ltb, ltb→lt}
+use lib.Dec.{T, ltb, ltb→lt, leb→le, le→leb}
 use lib.IntN.{ℤ, pos, negsuc, negℤ, natAbs, subℕ, _+ℤ_, _*ℤ_, +ℤ-comm, negℤ-+ℤ, negℤ-negℤ, zero-*ℤ, *ℤ-zero}
+use lib.Signed.{_≤ℤ_}
 use lib.Ieee.{unlike}
 use borrow.Author.Tests.{le-ltb}
 use Rattle.slider.specs.Readings.{signed}
@@ -48,6 +49,24 @@ signed-by s n d = mul-signed s false n d ∙ ap (λ (t : Bool). signed t (n * d)
     plain : (s : Bool) → unlike s false ≡ s
     plain true = refl
     plain false = refl
+
+pub neg-times : (z : ℤ) (d : ℕ) → negℤ z *ℤ pos d ≡ negℤ (z *ℤ pos d)
+neg-times (pos n) d = signed-by true n d
+neg-times (negsuc n) d = sym (negℤ-negℤ (pos (suc n * d)))
+
+-- ---- the order, turned round by the sign
+pub neg-le-neg : (a b : ℤ) → a ≤ℤ b → negℤ b ≤ℤ negℤ a
+neg-le-neg (pos zero) (pos zero) h = h
+neg-le-neg (pos zero) (pos (suc b)) h = record { le = tt }
+neg-le-neg (pos (suc a)) (pos zero) h = absurd (no a (leb→le (suc a) 0 (h .le)))
+  where
+    no : (a : ℕ) → suc a ≤ 0 → ⊥
+    no a h = omega arith
+neg-le-neg (pos (suc a)) (pos (suc b)) h = record { le = le→leb a b (le-of-suc-le-suc (leb→le (suc a) (suc b) (h .le))) }
+neg-le-neg (pos a) (negsuc b) h = absurd (h .le)
+neg-le-neg (negsuc a) (pos zero) h = record { le = le→leb 0 (suc a) zero-le }
+neg-le-neg (negsuc a) (pos (suc b)) h = record { le = tt }
+neg-le-neg (negsuc a) (negsuc b) h = record { le = le→leb (suc b) (suc a) (suc-le-suc (leb→le b a (h .le))) }
 
 -- ---- sizes
 pub abs-mul : (z w : ℤ) → natAbs (z *ℤ w) ≡ natAbs z * natAbs w

@@ -1,4 +1,4 @@
--- Claim: the worked cases of 01, and cases at the edges, as one table. Assumes nothing.
+-- Claim: the worked cases of 01 and of A2, and cases at the edges, as one table. Assumes nothing.
 use mathlib.Core.Path.{_≡_, refl}
 use mathlib.Core.List.{List, [], _∷_, map}
 use Prim.Native.Nat.{ℕ}
@@ -65,7 +65,7 @@ fixed-case value used answer = record { kind = Fixed value; position = nan; used
 
 abbrev pub cases : List Case
 cases =
-    -- 01's own
+    -- 01's own, "at most" cases since A2
     span-case (times 5 1) (times 5 2) quarter AtMost (Bound (pos 12))
     ∷ span-case (minus 5 1) (minus 5 0) half AtMost (Bound (negsuc 7))
     ∷ rate-case (times 15 1) half AtMost (Bound (pos 60))
@@ -74,9 +74,22 @@ cases =
     ∷ rate-case (times 195 1) one-part AtMost (Bound (pos 99840))
     ∷ rate-case (times 391 0) one-part AtMost (Refused 11)
     ∷ fixed-case (minus-over 5 0) AtMost (Bound (negsuc 2))
-    -- "at least", -0.0, the order of refusals, the grids, the ranges, what is not finite, a subnormal, the bound's limit
-    ∷ fixed-case (over 25 0) AtLeast (Bound (negsuc 11))
-    ∷ fixed-case (minus-over 5 0) AtLeast (Bound (pos 3))
+    -- A2's own, then a Span, both signs of each, whole values, and the ends
+    ∷ fixed-case (over 25 0) AtLeast (Bound (negsuc 12))
+    ∷ rate-case (times 7 0) three-quarters AtLeast (Bound (negsuc 9))
+    ∷ span-case (times 5 1) (times 5 2) quarter AtLeast (Bound (negsuc 12))
+    ∷ span-case (minus 5 1) (minus 5 0) half AtLeast (Bound (pos 7))
+    ∷ fixed-case (minus-over 5 0) AtLeast (Bound (pos 2))
+    ∷ fixed-case (minus-over 1 0) AtLeast (Bound (pos 0))
+    ∷ fixed-case (minus 1 1) AtLeast (Bound (pos 2))
+    ∷ rate-case (times 15 1) half AtLeast (Bound (negsuc 59))
+    ∷ fixed-case (over 200001 0) AtMost (Bound (pos 100000))
+    ∷ fixed-case (over 200001 0) AtLeast (Refused 11)
+    ∷ fixed-case (minus-over 200001 0) AtMost (Refused 11)
+    ∷ fixed-case (minus-over 200001 0) AtLeast (Bound (pos 100000))
+    ∷ fixed-case (times 3125 5) AtLeast (Bound (negsuc 99999))
+    ∷ fixed-case (times 1 127) AtLeast (Refused 11)
+    -- -0.0, the order of refusals, the grids, the ranges, what is not finite, a subnormal
     ∷ span-case minus-zero (times 5 2) minus-zero AtMost (Bound (pos 0))
     ∷ rate-case minus-zero half AtMost (Bound (pos 0))
     ∷ rate-case (times 7 0) minus-zero AtMost (Refused 10)
@@ -87,13 +100,14 @@ cases =
     ∷ span-case (times 4097 0) (times 5 2) quarter AtMost (Refused 9)
     ∷ rate-case (minus 1 0) half AtMost (Refused 9)
     ∷ rate-case (times 7 0) nan AtMost (Refused 9)
+    ∷ rate-case (times 7 0) minus-zero AtLeast (Refused 10)
     ∷ fixed-case nan AtMost (Refused 9)
+    ∷ fixed-case nan AtLeast (Refused 9)
     ∷ fixed-case (inf true) AtMost (Refused 9)
     ∷ fixed-case (minus-over 1 148) AtMost (Bound (negsuc 0))
     ∷ fixed-case (over 1 148) AtMost (Bound (pos 0))
-    ∷ fixed-case (over 200001 0) AtMost (Bound (pos 100000))
-    ∷ fixed-case (minus-over 200001 0) AtMost (Refused 11)
-    ∷ fixed-case (times 1 127) AtLeast (Refused 11)
+    ∷ fixed-case (minus-over 1 148) AtLeast (Bound (pos 0))
+    ∷ fixed-case (over 1 148) AtLeast (Bound (negsuc 0))
     ∷ []
 
 -- Each case of the table has the answer that the contract of `slide` gives it.

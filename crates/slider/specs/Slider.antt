@@ -36,12 +36,16 @@ abbrev pub floor : ℤ → ℕ → ℤ
 floor (pos n) d = pos (n / d)
 floor (negsuc n) d = negsuc (n / d)
 
--- "The bound is the largest whole number not above the value. An "at most" use takes that bound; an "at least" use takes its negative on the turned-round pair."
+-- the smallest whole number not below z / d
+abbrev pub ceiling : ℤ → ℕ → ℤ
+ceiling z d = negℤ (floor (negℤ z) d)
+
+-- "The bound is the largest whole number not above the value. An "at most" use takes that bound"; as amended by A2, "an "at least" use takes the smallest whole number not below the value, negated", on the turned-round pair
 abbrev pub taken : Use → ℤ → ℕ → ℤ
 taken AtMost z d = floor z d
-taken AtLeast z d = negℤ (floor z d)
+taken AtLeast z d = negℤ (ceiling z d)
 
--- "11, the bound lies outside ±100,000"
+-- "11, the bound lies outside ±100,000"; A2: "Refusal 11 looks at the number so rounded"
 abbrev pub boundLimit : ℕ
 boundLimit = 100000
 

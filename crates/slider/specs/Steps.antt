@@ -1,14 +1,11 @@
 -- Auxiliary, no part of the meaning: what the private functions give on the way to the answer. The public claim cites none of it. Definitions only.
-use Prim.Native.Nat.{ℕ, _*_, _/_, _%_, _^_, _≤_, min}
-use mathlib.Core.Bool.{Bool, true, false, not}
+use Prim.Native.Nat.{ℕ, _+_, _*_, _/_, _%_, _^_, min}
+use mathlib.Core.Bool.{Bool, true, false, not, _&&_}
 use lib.Dec.{eqb}
-use lib.IntN.{negℤ, natAbs}
-use lib.Ieee.{Float, nan, inf, fin, up, down}
+use lib.Ieee.{Float, nan, inf, fin, up, down, unlike}
 use Rattle.slider.specs.declared.Split.{Split}
-use Rattle.slider.specs.declared.SliderAnswer.{SliderAnswer}
-use Rattle.slider.specs.declared.SliderAnswer.the-variants.{Bound, Refused}
-use Rattle.slider.specs.Readings.{Reading, at, off}
-use Rattle.slider.specs.Slider.{boundLimit}
+use Rattle.slider.specs.Readings.{signed, Reading, at, off, pick}
+use Rattle.slider.specs.Slider.{Outcome, kept}
 
 -- ---- `parts`
 -- the size at which a split stops, and the finest grid it is asked for: 1 / 2 ^ 8
@@ -35,12 +32,12 @@ abbrev pub isAt : Reading → Bool
 isAt (at z) = true
 isAt off = false
 
--- ---- `negated`
--- an answer that a slider can give: its bound is within the limit
-abbrev pub Given : SliderAnswer → Type 0
-Given (Bound z) = natAbs z ≤ boundLimit
-Given (Refused n) = Unit {0}
+-- ---- `limited`
+-- the bound of a size, or of one more, with a sign
+abbrev pub limitedGives : Bool → ℕ → Bool → Outcome
+limitedGives neg whole more = kept (signed neg (pick more (whole + 1) whole))
 
-abbrev pub turnedRound : SliderAnswer → SliderAnswer
-turnedRound (Bound z) = Bound (negℤ z)
-turnedRound (Refused n) = Refused n
+-- ---- `rounded`
+-- rounded down, or rounded up and negated: what was cut off counts as one more where the rounding leads away from 0, down from a negative number or up from a positive one
+abbrev pub roundedGives : Bool → Split → Outcome
+roundedGives up p = limitedGives (unlike (p .neg) up) (p .whole) (p .cut && unlike (p .neg) up)

@@ -3,8 +3,8 @@
 ghost use mathlib.Core.Path.{_≡_};
 ghost use Prim.Native.Nat.{_≤_, _<_, _^_};
 ghost use Rattle.slider.specs.Readings.{signed, reading, within, endOf, workOf, positionOf};
-ghost use Rattle.slider.specs.Slider.{boundLimit, told, kept, fixedGives, spanGives, rateGives, sliderGives};
-ghost use Rattle.slider.specs.Steps.{noSplit, finiteSplit, splitOf, cap, places, isAt, Given, turnedRound};
+ghost use Rattle.slider.specs.Slider.{boundLimit, told, fixedGives, spanGives, rateGives, sliderGives};
+ghost use Rattle.slider.specs.Steps.{noSplit, finiteSplit, splitOf, cap, places, isAt, limitedGives, roundedGives};
 
 // The limits of 01: an end of a Span's travel, a Rate's work, a position in parts of 1 / 2 ^ PLACES, and the bound.
 const END_LIMIT: u32 = 4096;
@@ -150,52 +150,38 @@ fn signed_of(neg: bool, n: u32) -> i32
     if neg { -z } else { z }
 }
 
-// The whole number of size n with a sign as a bound, or the refusal of one that is too far.
-fn limited(neg: bool, n: u32) -> SliderAnswer
-    ensures { λ r. ⌜ r ≡ told (kept (signed neg n)) ⌝ }
+// The whole number of size `whole`, or of one more, with a sign, as a bound; or the refusal of one that is too far.
+fn limited(neg: bool, whole: u32, more: bool) -> SliderAnswer
+    requires { ⌜ whole ≤ cap ⌝ }
+    ensures { λ r. ⌜ r ≡ told (limitedGives neg whole more) ⌝ }
 {
+    let n = if more { whole + 1 } else { whole };
     if BOUND_LIMIT < n {
         return SliderAnswer::Refused(TOO_FAR);
     }
     SliderAnswer::Bound(signed_of(neg, n))
 }
 
-// The largest whole number not above a value, as an "at most" use takes it.
-fn floor_of(v: f32) -> SliderAnswer
-    ensures { λ r. ⌜ r ≡ told (fixedGives Use.AtMost v) ⌝ }
+// The bound for a number's parts: rounded down, or rounded up and negated. What was cut off counts as one more where the rounding leads away from 0.
+fn rounded(p: Split, up: bool) -> SliderAnswer
+    requires { ⌜ p .whole ≤ cap ⌝ }
+    ensures { λ r. ⌜ r ≡ told (roundedGives up p) ⌝ }
 {
-    let p = parts(v, 0);
-    if p.finite {
-        if p.neg {
-            if p.cut {
-                return limited(true, p.whole + 1);
-            }
-            return limited(true, p.whole);
-        }
-        return limited(false, p.whole);
-    }
-    SliderAnswer::Refused(UNREAD)
+    limited(p.neg != up, p.whole, p.cut & (p.neg != up))
 }
 
-// An answer for the turned-round pair: the bound's negative.
-fn negated(a: SliderAnswer) -> SliderAnswer
-    requires { ⌜ Given a ⌝ }
-    ensures { λ r. ⌜ r ≡ turnedRound a ⌝ }
-{
-    match a {
-        SliderAnswer::Bound(z) => SliderAnswer::Bound(-z),
-        SliderAnswer::Refused(n) => SliderAnswer::Refused(n),
-    }
-}
-
-// The bound for a value, as its use takes it.
+// The bound for a value: rounded down for "at most", rounded up and negated for "at least".
 fn bound_of(v: f32, used: Use) -> SliderAnswer
     ensures { λ r. ⌜ r ≡ told (fixedGives used v) ⌝ }
 {
-    match used {
-        Use::AtMost => floor_of(v),
-        Use::AtLeast => negated(floor_of(v)),
+    let p = parts(v, 0);
+    if p.finite {
+        match used {
+            Use::AtMost => return rounded(p, false),
+            Use::AtLeast => return rounded(p, true),
+        }
     }
+    SliderAnswer::Refused(UNREAD)
 }
 
 // The bound of a Span at a position.

@@ -1,4 +1,4 @@
-// Prints the worked cases of 01's sliders, and cases at the edges, one to a line.
+// Prints the worked cases of sliders, 01's and A2's, and cases at the edges, one to a line, each in both uses.
 use slider::Kind;
 use slider::SliderAnswer;
 use slider::Travel;
@@ -14,51 +14,50 @@ fn write_whole(z: i32) {
     io::write_all(1, &text[..end]);
 }
 
-// Writes what was asked and what was answered.
-fn show(asked: &[u8], answer: SliderAnswer) {
-    io::write_all(1, asked);
+// Writes an answer: the bound, or the refusal number.
+fn write_answer(answer: SliderAnswer) {
     match answer {
-        SliderAnswer::Bound(z) => {
-            io::write_all(1, b": ");
-            write_whole(z);
-        }
+        SliderAnswer::Bound(z) => write_whole(z),
         SliderAnswer::Refused(n) => {
-            io::write_all(1, b": refused ");
+            io::write_all(1, b"refused ");
             io::print_decimal(1, n as u64);
         }
     }
+}
+
+// Writes what was asked and what was answered to each use.
+fn show(asked: &[u8], kind: Kind, position: f32) {
+    io::write_all(1, asked);
+    io::write_all(1, b": at most ");
+    write_answer(slider::slide(kind, position, Use::AtMost));
+    io::write_all(1, b", at least ");
+    write_answer(slider::slide(kind, position, Use::AtLeast));
     io::write_all(1, b"\n");
 }
 
-// Shows a Span in an "at most" use.
+// Shows a Span.
 fn show_span(asked: &[u8], low: f32, high: f32, position: f32) {
     show(
         asked,
-        slider::slide(
-            Kind::Span(Travel {
-                low: low,
-                high: high,
-            }),
-            position,
-            Use::AtMost,
-        ),
+        Kind::Span(Travel {
+            low: low,
+            high: high,
+        }),
+        position,
     );
 }
 
-// Shows a Rate in an "at most" use.
+// Shows a Rate.
 fn show_rate(asked: &[u8], work: f32, position: f32) {
-    show(
-        asked,
-        slider::slide(Kind::Rate { work: work }, position, Use::AtMost),
-    );
+    show(asked, Kind::Rate { work: work }, position);
 }
 
-// Shows a Fixed in an "at most" use, at position 0.
+// Shows a Fixed, at position 0.
 fn show_fixed(asked: &[u8], value: f32) {
-    show(asked, slider::slide(Kind::Fixed(value), 0.0, Use::AtMost));
+    show(asked, Kind::Fixed(value), 0.0);
 }
 
-// The cases of 01.
+// The cases of 01, and of A2 the one that is not among them.
 fn worked() {
     show_span(b"Span 10..20 at 0.25", 10.0, 20.0, 0.25);
     show_span(b"Span -10..-5 at 0.5", -10.0, -5.0, 0.5);
@@ -68,6 +67,7 @@ fn worked() {
     show_rate(b"Rate 390 at 1/256", 390.0, 0.00390625);
     show_rate(b"Rate 391 at 1/256", 391.0, 0.00390625);
     show_fixed(b"Fixed -2.5", -2.5);
+    show_fixed(b"Fixed 12.5", 12.5);
 }
 
 // Spans at the edges.
@@ -101,8 +101,11 @@ fn rates() {
 // Fixed values at the edges.
 fn fixed() {
     show_fixed(b"Fixed -0.0", -0.0);
+    show_fixed(b"Fixed -0.5", -0.5);
     show_fixed(b"Fixed 2.5", 2.5);
+    show_fixed(b"Fixed -2", -2.0);
     show_fixed(b"Fixed 100000.5", 100000.5);
+    show_fixed(b"Fixed 100000", 100000.0);
     show_fixed(b"Fixed 100001", 100001.0);
     show_fixed(b"Fixed -100000", -100000.0);
     show_fixed(b"Fixed -100000.5", -100000.5);
@@ -126,60 +129,7 @@ fn strange() {
     show_fixed(b"Fixed nan", nan);
     show_fixed(b"Fixed infinity", infinity);
     show_fixed(b"Fixed -infinity", -infinity);
-    show(
-        b"Fixed 5 at nan",
-        slider::slide(Kind::Fixed(5.0), nan, Use::AtMost),
-    );
-}
-
-// "At least" uses.
-fn at_least() {
-    show(
-        b"at least: Span 10..20 at 0.25",
-        slider::slide(
-            Kind::Span(Travel {
-                low: 10.0,
-                high: 20.0,
-            }),
-            0.25,
-            Use::AtLeast,
-        ),
-    );
-    show(
-        b"at least: Span -10..-5 at 0.5",
-        slider::slide(
-            Kind::Span(Travel {
-                low: -10.0,
-                high: -5.0,
-            }),
-            0.5,
-            Use::AtLeast,
-        ),
-    );
-    show(
-        b"at least: Rate 7 at 0.75",
-        slider::slide(Kind::Rate { work: 7.0 }, 0.75, Use::AtLeast),
-    );
-    show(
-        b"at least: Rate 7 at 0",
-        slider::slide(Kind::Rate { work: 7.0 }, 0.0, Use::AtLeast),
-    );
-    show(
-        b"at least: Fixed 12.5",
-        slider::slide(Kind::Fixed(12.5), 0.0, Use::AtLeast),
-    );
-    show(
-        b"at least: Fixed -2.5",
-        slider::slide(Kind::Fixed(-2.5), 0.0, Use::AtLeast),
-    );
-    show(
-        b"at least: Fixed 100000.5",
-        slider::slide(Kind::Fixed(100000.5), 0.0, Use::AtLeast),
-    );
-    show(
-        b"at least: Fixed -100000.5",
-        slider::slide(Kind::Fixed(-100000.5), 0.0, Use::AtLeast),
-    );
+    show(b"Fixed 5 at nan", Kind::Fixed(5.0), nan);
 }
 
 fn main() {
@@ -188,5 +138,4 @@ fn main() {
     rates();
     fixed();
     strange();
-    at_least();
 }

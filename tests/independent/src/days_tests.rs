@@ -1,10 +1,11 @@
-//! The days of 01 with their numbers, written by hand as lines and replies; and laws over random problems.
+//! The days of 01 and the sliders of 02 with their numbers, written by hand as lines and replies; and laws over
+//! random problems.
 
 use crate::answer::{answer, Answer, Reply};
 use crate::dialogue::{request, Request};
 use crate::facts::Distances;
 use crate::plain;
-use crate::problem::Problem;
+use crate::problem::{Problem, Refusal};
 use crate::random::Random;
 use crate::reasons;
 use crate::requests::Maker;
@@ -170,10 +171,22 @@ fn malformed_lines() {
     says(&format!("lamps {}1 0 0", "0".repeat((1 << 20) - 10)), "malformed");
 }
 
+/// Holds sliders of one use to their replies: kind, A, B and position, as in the dialogue.
+#[track_caller]
+fn slides(used: u32, cases: &[(u32, f32, f32, f32, &str)]) {
+    for (kind, a, b, position, expected) in cases {
+        let line = format!("slide {kind} {} {} {} {used}", a.to_bits(), b.to_bits(), position.to_bits());
+        says(&line, expected);
+    }
+}
+
+const LEAST_SUBNORMAL: f32 = f32::from_bits(1);
+
+/// The cases of 01: the bound is rounded down, and 11 looks at it.
 #[test]
-fn sliders_of_01() {
+fn sliders_at_most() {
     let cases = [
-        (0, 10.0f32, 20.0f32, 0.25f32, "bound 12"),
+        (0, 10.0, 20.0, 0.25, "bound 12"),
         (0, -10.0, -5.0, 0.5, "bound -8"),
         (1, 30.0, 0.0, 0.5, "bound 60"),
         (1, 7.0, 0.0, 0.75, "bound 9"),
@@ -182,38 +195,103 @@ fn sliders_of_01() {
         (1, 390.0, 0.0, 1.0 / 256.0, "bound 99840"),
         (1, 391.0, 0.0, 1.0 / 256.0, "refused 11"),
         (2, -2.5, 0.0, 0.3, "bound -3"),
+        (2, 12.5, 0.0, 0.0, "bound 12"),
+        (2, LEAST_SUBNORMAL, 0.0, 0.0, "bound 0"),
+        (2, -LEAST_SUBNORMAL, 0.0, 0.0, "bound -1"),
         (2, 100_000.5, 0.0, f32::NAN, "bound 100000"),
         (2, -100_000.5, 0.0, 0.0, "refused 11"),
+        (2, f32::MAX, 0.0, 0.0, "refused 11"),
+        (2, f32::MIN, 0.0, 0.0, "refused 11"),
         (2, f32::INFINITY, 0.0, 0.0, "refused 9"),
         (0, 4_097.0, 0.0, 0.0, "refused 9"),
         (0, 1.5, 0.0, 0.0, "refused 9"),
         (0, 1.0, 0.0, 0.001, "refused 9"),
     ];
-    for (kind, a, b, position, expected) in cases {
-        let line = format!("slide {kind} {} {} {} 0", a.to_bits(), b.to_bits(), position.to_bits());
-        says(&line, expected);
+    slides(0, &cases);
+}
+
+/// Least waits by A2 of 02: the number is rounded up, 11 looks at it, and it is negated.
+#[test]
+fn sliders_at_least() {
+    let cases = [
+        (0, 10.0, 20.0, 0.25, "bound -13"),
+        (0, -10.0, -5.0, 0.5, "bound 7"),
+        (0, 10.0, 20.0, 0.5, "bound -15"),
+        (1, 30.0, 0.0, 0.5, "bound -60"),
+        (1, 7.0, 0.0, 0.75, "bound -10"),
+        (1, 0.0, 0.0, 0.75, "bound 0"),
+        (1, 7.0, 0.0, 0.0, "refused 10"),
+        (1, 7.5, 0.0, 0.0, "refused 9"),
+        (1, 390.0, 0.0, 1.0 / 256.0, "bound -99840"),
+        (1, 391.0, 0.0, 1.0 / 256.0, "refused 11"),
+        (1, 3_125.0, 0.0, 8.0 / 256.0, "bound -100000"),
+        (2, 12.5, 0.0, f32::NAN, "bound -13"),
+        (2, -2.5, 0.0, 0.0, "bound 2"),
+        (2, -2.0, 0.0, 0.0, "bound 2"),
+        (2, 0.5, 0.0, 0.0, "bound -1"),
+        (2, -0.5, 0.0, 0.0, "bound 0"),
+        (2, -0.0, 0.0, 0.0, "bound 0"),
+        (2, LEAST_SUBNORMAL, 0.0, 0.0, "bound -1"),
+        (2, -LEAST_SUBNORMAL, 0.0, 0.0, "bound 0"),
+        (2, 99_999.5, 0.0, 0.0, "bound -100000"),
+        (2, 100_000.0, 0.0, 0.0, "bound -100000"),
+        (2, 100_000.5, 0.0, 0.0, "refused 11"),
+        (2, -100_000.5, 0.0, 0.0, "bound 100000"),
+        (2, -100_001.0, 0.0, 0.0, "refused 11"),
+        (2, f32::MAX, 0.0, 0.0, "refused 11"),
+        (2, f32::MIN, 0.0, 0.0, "refused 11"),
+        (2, f32::INFINITY, 0.0, 0.0, "refused 9"),
+    ];
+    slides(1, &cases);
+}
+
+/// The bound that a value gives by the host's own rounding, as its use takes it, or 11.
+fn bound_by_host(value: f32, used: Use) -> Result<i64, Refusal> {
+    let (rounded, sign) = match used {
+        Use::AtMost => (value.floor(), 1),
+        Use::AtLeast => (value.ceil(), -1),
+    };
+    if rounded.abs() > 100_000.0 {
+        Err(11)
+    } else {
+        Ok(sign * rounded as i64)
     }
-    says(&format!("slide 2 {} 0 0 1", 12.5f32.to_bits()), "bound -12");
+}
+
+/// Holds both uses of a slider to the value that the host works out.
+#[track_caller]
+fn slides_as_host(kind: Kind, position: f32, value: f32) {
+    for used in [Use::AtMost, Use::AtLeast] {
+        let got = slide(kind, position.to_bits(), used);
+        assert_eq!(got, bound_by_host(value, used), "{kind:?} {position} {used:?}");
+    }
 }
 
 /// The operations of 01 in binary32, each rounded once, give the integer formulas' answers.
 #[test]
 fn sliders_are_exact() {
-    let floor = |value: f32| value.floor() as i64;
     for k in 1..=256 {
         let position = k as f32 / 256.0;
-        for work in 0..=4_096 {
-            let got = slide(Kind::Rate { work: (work as f32).to_bits() }, position.to_bits(), Use::AtMost);
-            let bound = floor(work as f32 / position);
-            assert_eq!(got, if bound > 100_000 { Err(11) } else { Ok(bound) });
+        for work in (0..=4_096).map(|whole| whole as f32) {
+            slides_as_host(Kind::Rate { work: work.to_bits() }, position, work / position);
         }
     }
     let mut random = Random::new(1);
     for _ in 0..200_000 {
         let (low, high) = (random.between(-4_096, 4_096) as f32, random.between(-4_096, 4_096) as f32);
         let position = random.between(0, 256) as f32 / 256.0;
-        let got = slide(Kind::Span { low: low.to_bits(), high: high.to_bits() }, position.to_bits(), Use::AtMost);
-        assert_eq!(got, Ok(floor(low + (high - low) * position)));
+        let kind = Kind::Span { low: low.to_bits(), high: high.to_bits() };
+        slides_as_host(kind, position, low + (high - low) * position);
+    }
+}
+
+/// Fixed values of all sizes, from subnormal to the greatest, are rounded as they stand.
+#[test]
+fn fixed_values_are_rounded() {
+    let mut random = Random::new(2);
+    let values = (0..200_000).map(|_| f32::from_bits(random.bits() as u32));
+    for value in values.filter(|value| value.is_finite()) {
+        slides_as_host(Kind::Fixed { value: value.to_bits() }, 0.0, value);
     }
 }
 

@@ -21,33 +21,38 @@ pub enum Use {
 
 /// The slider's answer: the bound as its use takes it, or refusal 9, 10 or 11.
 pub fn slide(kind: Kind, position: u32, used: Use) -> Result<i64, Refusal> {
-    let bound = match kind {
+    let value = match kind {
         Kind::Span { low, high } => span(end(low), end(high), place(position)),
         Kind::Rate { work } => rate(self::work(work), place(position)),
-        Kind::Fixed { value } => Number::decoded(value).map(Number::floor).ok_or(9),
+        Kind::Fixed { value } => Number::decoded(value).map(Number::value).ok_or(9),
     }?;
-    if bound.abs() > FARTHEST_BOUND {
+    match used {
+        Use::AtMost => bound(value.floor()),
+        Use::AtLeast => bound(value.ceiling()).map(|least| -least),
+    }
+}
+
+/// The rounded number where it is a bound; 11 where it lies outside ±100,000.
+fn bound(rounded: i64) -> Result<i64, Refusal> {
+    if rounded.abs() > FARTHEST_BOUND {
         return Err(11);
     }
-    match used {
-        Use::AtMost => Ok(bound),
-        Use::AtLeast => Ok(-bound),
-    }
+    Ok(rounded)
 }
 
-/// The floor of (256·low + (high − low)·k)/256.
-fn span(low: Option<i64>, high: Option<i64>, k: Option<i64>) -> Result<i64, Refusal> {
+/// A Span's value, (256·low + (high − low)·k)/256.
+fn span(low: Option<i64>, high: Option<i64>, k: Option<i64>) -> Result<Value, Refusal> {
     let (low, high, k) = (low.ok_or(9)?, high.ok_or(9)?, k.ok_or(9)?);
-    Ok((GRID * low + (high - low) * k).div_euclid(GRID))
+    Ok(Value { numerator: GRID * low + (high - low) * k, denominator: GRID })
 }
 
-/// The floor of 256·work/k.
-fn rate(work: Option<i64>, k: Option<i64>) -> Result<i64, Refusal> {
+/// A Rate's value, 256·work/k.
+fn rate(work: Option<i64>, k: Option<i64>) -> Result<Value, Refusal> {
     let (work, k) = (work.ok_or(9)?, k.ok_or(9)?);
     if k == 0 {
         return Err(10);
     }
-    Ok((GRID * work).div_euclid(k))
+    Ok(Value { numerator: GRID * work, denominator: k })
 }
 
 /// An end of a Span: whole, −4,096 to 4,096.
@@ -69,7 +74,26 @@ fn place(bits: u32) -> Option<i64> {
 fn multiple(bits: u32, shift: i32) -> Option<i64> {
     let number = Number::decoded(bits)?;
     let shifted = Number { exponent: number.exponent + shift, ..number };
-    shifted.is_whole().then(|| shifted.floor())
+    shifted.is_whole().then(|| shifted.value().floor())
+}
+
+/// A value before it is rounded: numerator ÷ denominator, which is above 0.
+#[derive(Clone, Copy)]
+struct Value {
+    numerator: i64,
+    denominator: i64,
+}
+
+impl Value {
+    /// The largest whole number not above it.
+    fn floor(self) -> i64 {
+        self.numerator.div_euclid(self.denominator)
+    }
+
+    /// The smallest whole number not below it.
+    fn ceiling(self) -> i64 {
+        -(-self.numerator).div_euclid(self.denominator)
+    }
 }
 
 /// A finite binary32: mantissa times 2 to the exponent, negated where asked.
@@ -80,8 +104,11 @@ struct Number {
     exponent: i32,
 }
 
-/// Past every range and bound, so that its exact value no longer matters.
-const HUGE: i64 = 1 << 62;
+/// Smaller exponents are taken as this one: a number other than 0 stays between 0 and 1 in size.
+const LEAST_EXPONENT: i32 = -62;
+
+/// Greater exponents are taken as this one: the number stays past every range and bound.
+const GREATEST_EXPONENT: i32 = 38;
 
 impl Number {
     /// The number that the bits stand for; None for infinities and NaNs.
@@ -100,14 +127,14 @@ impl Number {
         self.mantissa == 0 || self.exponent >= 0 || self.exponent.abs() <= self.mantissa.trailing_zeros() as i32
     }
 
-    /// The largest whole number not above it (HUGE or its negative where it is out of every range).
-    fn floor(self) -> i64 {
-        let size = self.mantissa;
-        let signed = if self.negative { -size } else { size };
-        match self.exponent {
-            exponent if exponent > 30 => signed.signum() * HUGE,
-            exponent if exponent >= 0 => signed << exponent,
-            exponent => signed >> (-exponent).min(62),
+    /// Its value; where the exponent is cut, one that is rounded and refused alike.
+    fn value(self) -> Value {
+        let signed = if self.negative { -self.mantissa } else { self.mantissa };
+        let exponent = self.exponent.clamp(LEAST_EXPONENT, GREATEST_EXPONENT);
+        if exponent < 0 {
+            Value { numerator: signed, denominator: 1 << -exponent }
+        } else {
+            Value { numerator: signed << exponent, denominator: 1 }
         }
     }
 }

@@ -1,4 +1,4 @@
--- Claims of the definitions that the contract of `slide` cites: one answer, the floor and the ceiling, the formulas of 01. Others: `Numbers`, `Refusals`, `Worked`. Assumes nothing.
+-- Claims of the definitions that the contract of `slide` cites: one answer, the floor and the ceiling, the formulas of 01. Others: `Numbers`, `Refusals`, `Waits`, `Worked`. Assumes nothing.
 use mathlib.Core.Path.{_≡_, sym, ap, _∙_}
 use Prim.Native.Nat.{ℕ, suc, _<_}
 use lib.IntN.{ℤ, pos, _+ℤ_, _-ℤ_, _*ℤ_}

@@ -1,4 +1,4 @@
--- The claims besides the contracts stand in `Claims`, `Numbers`, `Refusals` and `Worked`; the other files lead to them and to the functions' proofs.
+-- The claims besides the contracts stand in `Claims`, `Numbers`, `Refusals`, `Waits` and `Worked`; the other files lead to them and to the functions' proofs.
 pub mod Whole
 pub mod Word
 pub mod Floor
@@ -14,4 +14,5 @@ pub mod Rates
 pub mod Claims
 pub mod Numbers
 pub mod Refusals
+pub mod Waits
 pub mod Worked

@@ -1,9 +1,12 @@
 -- Claim: "Refusals, in order: 9, a number that is read is not finite or not on its grid or range; 10, a Rate at position 0; 11, the bound lies outside ±100,000." Assumes nothing.
-use mathlib.Core.Path.{_≡_, refl}
-use Prim.Native.Nat.{ℕ, zero, suc, _*_}
+use mathlib.Core.Path.{_≡_, refl, sym, subst}
+use Prim.Native.Nat.{ℕ, zero, suc, _*_, _<_}
+use native.Mathlib.Nat.{zero-lt-suc}
 use mathlib.Core.Bool.{Bool, true, false, _&&_}
+use lib.Dec.{T, lit<}
 use lib.IntN.{ℤ, pos, negsuc, natAbs, _+ℤ_, _-ℤ_, _*ℤ_}
 use lib.Ieee.{Float, nan, inf, fin, up, down}
+use lib.Ieee.Fits.{down-pos}
 use Rattle.slider.specs.declared.Kind.{Kind}
 use Rattle.slider.specs.declared.Kind.the-variants.{Span, Rate, Fixed}
 use Rattle.slider.specs.declared.Use.{Use}
@@ -53,6 +56,22 @@ denominator (Rate work) position = natAbs (wholeOf (positionOf position))
 denominator (Fixed nan) position = 1
 denominator (Fixed (inf s)) position = 1
 denominator (Fixed (fin s m e)) position = down e
+
+-- where neither refusal applies, the fraction has a denominator
+pub denominator-pos : (kind : Kind) (position : Float) → allRead kind position ≡ true → rateAtZero kind position ≡ false → 0 < denominator kind position
+unfolding allRead rateAtZero isZero wholeOf denominator
+denominator-pos (Span travel) position a z = lit< tt
+denominator-pos (Rate work) position a z = go (isAt (workOf work)) (positionOf position) a z
+  where
+    go : (w : Bool) (k : Reading) → (w && isAt k) ≡ true → isZero k ≡ false → 0 < natAbs (wholeOf k)
+    go true off a z = absurd (subst T (sym a) tt)
+    go false off a z = absurd (subst T (sym a) tt)
+    go w (at (pos zero)) a z = absurd (subst T z tt)
+    go w (at (pos (suc k))) a z = zero-lt-suc k
+    go w (at (negsuc k)) a z = zero-lt-suc k
+denominator-pos (Fixed nan) position a z = lit< tt
+denominator-pos (Fixed (inf s)) position a z = lit< tt
+denominator-pos (Fixed (fin s m e)) position a z = down-pos e
 
 -- ---- the order
 -- 9 unless all is read, whatever else applies; then 10 for a Rate at 0; then the rest

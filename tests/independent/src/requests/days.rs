@@ -1,4 +1,5 @@
-//! The lines that every run begins with: the days of 01 and their edges, worked scripts, and the longest lines.
+//! The lines that every run begins with: the days of 01 and their edges, the sliders of 01 and 02, worked scripts,
+//! and the longest lines.
 
 use super::fixed_scripts;
 use super::lines::long_line;
@@ -113,10 +114,12 @@ fn lamps() -> Vec<Request> {
     days().into_iter().chain(edges()).map(|lent| Request::Lamps { lent }).collect()
 }
 
+/// The sliders of 01 and of A2 in 02, a Rate at the bound's limit, and two that are whole though 1 ÷ position is
+/// not; each in both uses.
 fn sliders() -> Vec<Request> {
     let span = |low, high| Kind::Span { low: bits_of(low, 0), high: bits_of(high, 0) };
     let rate = |work| Kind::Rate { work: bits_of(work, 0) };
-    let shown = [
+    let mut shown = vec![
         (span(10, 20), 64),
         (span(-10, -5), 128),
         (rate(30), 128),
@@ -124,8 +127,18 @@ fn sliders() -> Vec<Request> {
         (rate(7), 0),
         (rate(390), 1),
         (rate(391), 1),
-        (Kind::Fixed { value: bits_of(-5, 1) }, 0),
+        (rate(3_125), 8),
+        (rate(21), 7),
+        (rate(41), 41),
     ];
+    shown.extend(fixed_values().map(|value| (Kind::Fixed { value }, 0)));
     let slide = |(kind, k), used| Request::Slide { kind, position: bits_of(k, 8), used };
     shown.iter().flat_map(|case| [slide(*case, Use::AtMost), slide(*case, Use::AtLeast)]).collect()
+}
+
+/// The bits of Fixed values: every half within 1 of 0 and of the bound's limits, 12.5, −2.5, −2, −0.0, and the
+/// two subnormals nearest to 0.
+fn fixed_values() -> impl Iterator<Item = u32> {
+    let halves = [-200_000, 0, 200_000].into_iter().flat_map(|whole| whole - 2..=whole + 2).chain([25, -5, -4]);
+    halves.map(|z| bits_of(z, 1)).chain([0x8000_0000, 0x0000_0001, 0x8000_0001])
 }

@@ -1,6 +1,8 @@
-//! Slider requests: every kind, on and off the grid, and the odd binary32 numbers.
+//! Slider requests: every kind, on and off the grid, values around the bound's limits and whole numbers, and the
+//! odd binary32 numbers.
 
 use crate::dialogue::Request;
+use crate::problem::FARTHEST_BOUND;
 use crate::random::Random;
 use crate::slider::{Kind, Use};
 
@@ -25,13 +27,13 @@ const ODD: [u32; 16] = [
 ];
 
 pub fn request(random: &mut Random) -> Request {
-    let kind = match random.below(3) {
-        0 => Kind::Span { low: end(random), high: end(random) },
-        1 => Kind::Rate { work: work(random) },
-        _ => Kind::Fixed { value: value(random) },
+    let (kind, position) = match random.below(3) {
+        0 => (Kind::Span { low: end(random), high: end(random) }, position(random)),
+        1 => rate(random),
+        _ => (Kind::Fixed { value: value(random) }, position(random)),
     };
     let used = random.among(&[Use::AtMost, Use::AtLeast]);
-    Request::Slide { kind, position: position(random), used }
+    Request::Slide { kind, position, used }
 }
 
 /// The bits of z / 2^shift, where |z| is below 2^24.
@@ -68,6 +70,32 @@ fn end(random: &mut Random) -> u32 {
     at_times_odd(random, bits_of(whole, shift))
 }
 
+/// A Rate and its position: of any value, or of one around the bound's limit or a whole number.
+fn rate(random: &mut Random) -> (Kind, u32) {
+    let (work, k) = match random.below(4) {
+        0 => work_and_k_at_limit(random),
+        1 => work_and_k_at_whole(random),
+        _ => return (Kind::Rate { work: work(random) }, position(random)),
+    };
+    (Kind::Rate { work: bits_of(work, 0) }, bits_of(k, 8))
+}
+
+/// A work and a k of the greatest value not above the bound's limit, or of the next; no k past 10 reaches it.
+fn work_and_k_at_limit(random: &mut Random) -> (i64, i64) {
+    let k = random.between(1, 10);
+    (FARTHEST_BOUND * k / 256 + random.between(0, 1), k)
+}
+
+/// A work and a k of a value that is whole, or 1/k beside a whole number; of k works in a row one has it.
+fn work_and_k_at_whole(random: &mut Random) -> (i64, i64) {
+    let k = random.between(1, 256);
+    let mut work = random.between(0, 3_840);
+    while ![0, 1, k - 1].contains(&(256 * work % k)) {
+        work += 1;
+    }
+    (work, k)
+}
+
 fn work(random: &mut Random) -> u32 {
     let whole = match random.below(8) {
         0 => random.among(&[-1, 0, 1, 390, 391, 4_095, 4_096, 4_097]),
@@ -88,13 +116,15 @@ fn position(random: &mut Random) -> u32 {
     at_times_odd(random, bits_of(k, shift))
 }
 
+/// A Fixed value: within 2 of either of the bound's limits, around 0, or of any size.
 fn value(random: &mut Random) -> u32 {
     let shift = random.below(8) as i32;
-    let near = random.between(-300, 300);
+    let one = 1 << shift;
+    let near = random.between(-2 * one, 2 * one);
     let z = match random.below(4) {
-        0 => (100_000 << shift) + near,
-        1 => -(100_000 << shift) + near,
-        2 => near,
+        0 => FARTHEST_BOUND * one + near,
+        1 => -FARTHEST_BOUND * one + near,
+        2 => random.between(-300, 300),
         _ => random.between(-16_000_000, 16_000_000),
     };
     at_times_odd(random, bits_of(z, shift))

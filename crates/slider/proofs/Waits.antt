@@ -13,7 +13,7 @@ use Rattle.slider.specs.declared.Use.{Use}
 use Rattle.slider.specs.declared.Use.the-variants.{AtMost, AtLeast}
 use Rattle.slider.specs.Readings.{pick}
 use Rattle.slider.specs.Slider.{Outcome, bound, unread, atZero, tooFar, ceiling, taken, boundLimit, kept, sliderGives}
-use Rattle.slider.proofs.Whole.{neg-le-neg}
+use Rattle.slider.proofs.Whole.{neg-le-neg, neg-le-cancel}
 use Rattle.slider.proofs.Floor.{floor-below, floor-above}
 use Rattle.slider.proofs.Ceiling.{ceiling-above, ceiling-below}
 use Rattle.slider.proofs.Claims.{ceiling-smallest}
@@ -66,7 +66,7 @@ keeps : (u : Use) (x y z : ℤ) (d : ℕ) → 0 < d → ((x -ℤ y) ≤ℤ taken
 unfolding KeepsValue
 keeps AtMost x y z d D = (floor-below z d (x -ℤ y) D, floor-above z d (x -ℤ y) D)
 keeps AtLeast x y z d D = (
-  λ h. ceiling-above z d (y -ℤ x) D (subst (λ (k : ℤ). k ≤ℤ (y -ℤ x)) (negℤ-negℤ c) (subst (λ (k : ℤ). negℤ (negℤ c) ≤ℤ k) (turned x y) (neg-le-neg (x -ℤ y) (negℤ c) h))),
+  λ h. ceiling-above z d (y -ℤ x) D (neg-le-cancel (y -ℤ x) c (subst (λ (k : ℤ). k ≤ℤ negℤ c) (sym (turned y x)) h)),
   λ h. subst (λ (k : ℤ). k ≤ℤ negℤ c) (turned y x) (neg-le-neg c (y -ℤ x) (ceiling-below z d (y -ℤ x) D h)),
 )
   where

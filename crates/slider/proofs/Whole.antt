@@ -1,5 +1,5 @@
 -- Whole numbers by sign and size: their sums, products, order and sizes. Assumes nothing.
-use mathlib.Core.Path.{_≡_, refl, sym, ap, _∙_}
+use mathlib.Core.Path.{_≡_, refl, sym, ap, _∙_, subst}
 use Prim.Native.Nat.{ℕ, zero, suc, _+_, _-_, _*_, _≤_, _<_, zero-le, suc-le-suc}
 use native.Mathlib.Nat.{le-refl, le-of-suc-le-suc, zero-mul, mul-zero, add-zero, sub-zero}
 use native.Mathlib.Omega.{arith}
@@ -67,6 +67,12 @@ neg-le-neg (pos a) (negsuc b) h = absurd (h .le)
 neg-le-neg (negsuc a) (pos zero) h = record { le = le→leb 0 (suc a) zero-le }
 neg-le-neg (negsuc a) (pos (suc b)) h = record { le = tt }
 neg-le-neg (negsuc a) (negsuc b) h = record { le = le→leb (suc b) (suc a) (suc-le-suc (leb→le b a (h .le))) }
+
+pub neg-le-flip : (a b : ℤ) → negℤ a ≤ℤ b → negℤ b ≤ℤ a
+neg-le-flip a b h = subst (λ (z : ℤ). negℤ b ≤ℤ z) (negℤ-negℤ a) (neg-le-neg (negℤ a) b h)
+
+pub neg-le-cancel : (a b : ℤ) → negℤ a ≤ℤ negℤ b → b ≤ℤ a
+neg-le-cancel a b h = subst (λ (z : ℤ). z ≤ℤ a) (negℤ-negℤ b) (neg-le-flip a (negℤ b) h)
 
 -- ---- sizes
 pub abs-mul : (z w : ℤ) → natAbs (z *ℤ w) ≡ natAbs z * natAbs w

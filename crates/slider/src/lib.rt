@@ -176,10 +176,10 @@ fn bound_of(v: f32, used: Use) -> SliderAnswer
 {
     let p = parts(v, 0);
     if p.finite {
-        match used {
-            Use::AtMost => return rounded(p, false),
-            Use::AtLeast => return rounded(p, true),
-        }
+        return match used {
+            Use::AtMost => rounded(p, false),
+            Use::AtLeast => rounded(p, true),
+        };
     }
     SliderAnswer::Refused(UNREAD)
 }

@@ -33,18 +33,18 @@ enum-told c = search needs
 rounded-requires : tie.Need-rounded-requires
 rounded-requires c κs = let at-parts = c .before .before .before in small (at-parts .before .args .v) (at-parts .parts .result) (at-parts .parts .ensures)
 
+enum-told-2 : tie.Need-enum-told-2
+enum-told-2 c = search needs
+
+rounded-requires-2 : tie.Need-rounded-requires-2
+rounded-requires-2 c κs = let at-parts = c .before .before .before in small (at-parts .before .args .v) (at-parts .parts .result) (at-parts .parts .ensures)
+
 returns : tie.Need-returns
 returns c =
     let at-if = c .before .before .before in
     let at-parts = at-if .before in
     let a = at-parts .before .args in
     c .rounded .ensures ∙ from AtMost (a .used) (a .v) (at-parts .parts .result) (c .before .enum-told .given .1) (at-parts .parts .ensures) (at-if .if1 .taken)
-
-enum-told-2 : tie.Need-enum-told-2
-enum-told-2 c = search needs
-
-rounded-requires-2 : tie.Need-rounded-requires-2
-rounded-requires-2 c κs = let at-parts = c .before .before .before in small (at-parts .before .args .v) (at-parts .parts .result) (at-parts .parts .ensures)
 
 returns-2 : tie.Need-returns-2
 returns-2 c =
@@ -66,8 +66,8 @@ bound-of-spec =
     parts-requires
     enum-told
     rounded-requires
-    returns
     enum-told-2
     rounded-requires-2
+    returns
     returns-2
     returns-3)

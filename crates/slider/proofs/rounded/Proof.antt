@@ -1,5 +1,4 @@
 -- `slider::rounded` meets its contract. Assumes nothing.
-use borrow.Author.Needs.{needs}
 use Rattle.slider.proofs.rounded.Statement.{statement}
 use Rattle.slider.proofs.rounded.Tie as tie
 

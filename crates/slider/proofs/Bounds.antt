@@ -1,4 +1,4 @@
--- The bound that `limited` makes of a number's parts is what the use takes of the number. Assumes nothing.
+-- The bound that `bound_of` makes of a number's parts is what the use takes of the number. Assumes nothing.
 use mathlib.Core.Path.{_≡_, refl, sym, ap, _∙_, subst}
 use Prim.Native.Nat.{ℕ, _+_, _*_, _/_, _%_, _^_, _≤_, _<_, min}
 use native.Mathlib.Nat.{mul-one, add-zero, min-le-right, min-eq-left}
@@ -8,11 +8,12 @@ use lib.Dec.{T, leb, eqb, leb→le, nleb→lt, lit≤}
 use lib.Ieee.{Float, nan, inf, fin, up, down, unlike}
 use lib.Ieee.Fits.{down-pos}
 use borrow.Author.Tests.{eqb-true, eqb-false, le-leb, lt-leb}
+use Rattle.slider.specs.declared.Split.{Split}
 use Rattle.slider.specs.declared.Use.{Use}
 use Rattle.slider.specs.declared.Use.the-variants.{AtMost, AtLeast}
 use Rattle.slider.specs.Readings.{signed, pick}
-use Rattle.slider.specs.Slider.{bound, unread, tooFar, floor, taken, boundLimit, kept, fixedGives}
-use Rattle.slider.specs.Steps.{cap, splitOf, limitedGives, roundedGives}
+use Rattle.slider.specs.Slider.{Outcome, bound, unread, tooFar, floor, taken, boundLimit, kept, fixedGives}
+use Rattle.slider.specs.Steps.{cap, splitOf, limitedGives, roundsUp}
 use Rattle.slider.proofs.Whole.{abs-signed}
 use Rattle.slider.proofs.Floor.{floor-cut, floor-exact}
 use Rattle.slider.proofs.Ceiling.{least-floor}
@@ -42,11 +43,6 @@ capped-whole : (s : Bool) (n : ℕ) → kept (signed s (min n cap)) ≡ kept (si
 capped-whole s n = ap (λ (m : ℕ). kept (signed s m)) (sym (add-zero (min n cap))) ∙ capped s n 0 ∙ ap (λ (m : ℕ). kept (signed s m)) (add-zero n)
 
 -- ---- the parts of a number, rounded
--- which way a use rounds
-abbrev pub roundsUp : Use → Bool
-roundsUp AtMost = false
-roundsUp AtLeast = true
-
 capped-gives : (s more : Bool) (n : ℕ) → limitedGives s (min n cap) more ≡ limitedGives s n more
 capped-gives s true n = capped s n 1
 capped-gives s false n = capped-whole s n
@@ -71,7 +67,11 @@ taken-rounded AtMost false t n D P w = floor-rounded false t n D P w
 taken-rounded AtLeast true t n D P w = least-floor true n D ∙ floor-rounded false t n D P w
 taken-rounded AtLeast false t n D P w = least-floor false n D ∙ floor-rounded true t n D P w
 
-pub split-gives : (u : Use) (x : Float) → splitOf 0 x .finite ≡ true → roundedGives (roundsUp u) (splitOf 0 x) ≡ fixedGives u x
+-- the bound that `bound_of` makes of a number's parts
+abbrev pub partsGive : Bool → Split → Outcome
+partsGive up p = limitedGives (unlike (p .neg) up) (p .whole) (p .cut && unlike (p .neg) up)
+
+pub split-gives : (u : Use) (x : Float) → splitOf 0 x .finite ≡ true → partsGive (roundsUp u) (splitOf 0 x) ≡ fixedGives u x
 unfolding splitOf fixedGives
 split-gives u nan f = absurd (subst T (sym f) tt)
 split-gives u (inf s) f = absurd (subst T (sym f) tt)

@@ -1,9 +1,11 @@
 -- Auxiliary, no part of the meaning: what the private functions give on the way to the answer. The public claim cites none of it. Definitions only.
 use Prim.Native.Nat.{ℕ, _+_, _*_, _/_, _%_, _^_, min}
-use mathlib.Core.Bool.{Bool, true, false, not, _&&_}
+use mathlib.Core.Bool.{Bool, true, false, not}
 use lib.Dec.{eqb}
-use lib.Ieee.{Float, nan, inf, fin, up, down, unlike}
+use lib.Ieee.{Float, nan, inf, fin, up, down}
 use Rattle.slider.specs.declared.Split.{Split}
+use Rattle.slider.specs.declared.Use.{Use}
+use Rattle.slider.specs.declared.Use.the-variants.{AtMost, AtLeast}
 use Rattle.slider.specs.Readings.{signed, Reading, at, off, pick}
 use Rattle.slider.specs.Slider.{Outcome, kept}
 
@@ -37,7 +39,7 @@ isAt off = false
 abbrev pub limitedGives : Bool → ℕ → Bool → Outcome
 limitedGives neg whole more = kept (signed neg (pick more (whole + 1) whole))
 
--- ---- `rounded`
--- rounded down, or rounded up and negated: what was cut off counts as one more where the rounding leads away from 0, down from a negative number or up from a positive one
-abbrev pub roundedGives : Bool → Split → Outcome
-roundedGives up p = limitedGives (unlike (p .neg) up) (p .whole) (p .cut && unlike (p .neg) up)
+-- ---- `rounds_up`
+abbrev pub roundsUp : Use → Bool
+roundsUp AtMost = false
+roundsUp AtLeast = true

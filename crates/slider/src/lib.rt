@@ -4,7 +4,7 @@ ghost use mathlib.Core.Path.{_≡_};
 ghost use Prim.Native.Nat.{_≤_, _<_, _^_};
 ghost use Rattle.slider.specs.Readings.{signed, reading, within, endOf, workOf, positionOf};
 ghost use Rattle.slider.specs.Slider.{boundLimit, told, fixedGives, spanGives, rateGives, sliderGives};
-ghost use Rattle.slider.specs.Steps.{noSplit, finiteSplit, splitOf, cap, places, isAt, limitedGives, roundedGives};
+ghost use Rattle.slider.specs.Steps.{noSplit, finiteSplit, splitOf, cap, places, isAt, limitedGives, roundsUp};
 
 // The limits of 01: an end of a Span's travel, a Rate's work, a position in parts of 1 / 2 ^ PLACES, and the bound.
 const END_LIMIT: u32 = 4096;
@@ -162,24 +162,25 @@ fn limited(neg: bool, whole: u32, more: bool) -> SliderAnswer
     SliderAnswer::Bound(signed_of(neg, n))
 }
 
-// The bound for a number's parts: rounded down, or rounded up and negated. What was cut off counts as one more where the rounding leads away from 0.
-fn rounded(p: Split, up: bool) -> SliderAnswer
-    requires { ⌜ p .whole ≤ cap ⌝ }
-    ensures { λ r. ⌜ r ≡ told (roundedGives up p) ⌝ }
+// Whether a use rounds up.
+fn rounds_up(used: Use) -> bool
+    ensures { λ r. ⌜ r ≡ roundsUp used ⌝ }
 {
-    limited(p.neg != up, p.whole, p.cut & (p.neg != up))
+    match used {
+        Use::AtMost => false,
+        Use::AtLeast => true,
+    }
 }
 
-// The bound for a value: rounded down for "at most", rounded up and negated for "at least".
+// The bound for a value: rounded down for "at most"; rounded up, and negated, for "at least".
+// What was cut off counts as one more where the rounding leads away from 0: down from a negative number, or up from a positive one.
 fn bound_of(v: f32, used: Use) -> SliderAnswer
     ensures { λ r. ⌜ r ≡ told (fixedGives used v) ⌝ }
 {
     let p = parts(v, 0);
+    let up = rounds_up(used);
     if p.finite {
-        return match used {
-            Use::AtMost => rounded(p, false),
-            Use::AtLeast => rounded(p, true),
-        };
+        return limited(p.neg != up, p.whole, p.cut & (p.neg != up));
     }
     SliderAnswer::Refused(UNREAD)
 }

@@ -28,7 +28,7 @@ IsBound tooFar b = ⊥
 
 -- no refusal applies, and the bound is what the use takes of the value
 record Given (kind : Kind) (position : Float) (used : Use) (b : ℤ) : Type 0 where
-  pub parted : 0 < denominator kind position
+  pub some : 0 < denominator kind position
   pub is : taken used (numerator kind position) (denominator kind position) ≡ b
 
 kept-is : (z b : ℤ) → IsBound (kept z) b → z ≡ b
@@ -50,7 +50,7 @@ given kind position used b h =
     go : (a r : Bool) → allRead kind position ≡ a → rateAtZero kind position ≡ r → IsBound (inOrder a r (kept z)) b → Given kind position used b
     go false r p q i = absurd i
     go true true p q i = absurd i
-    go true false p q i = record { parted = denominator-pos kind position p q; is = kept-is z b i }
+    go true false p q i = record { some = denominator-pos kind position p q; is = kept-is z b i }
 
 -- ---- the days that keep it
 -- what the times x and y of an alternative (x, y, b) owe a value v, which is z / d: x - y ≤ v as "at most"; as "at least", of the pair turned round, y - x ≥ v
@@ -79,7 +79,7 @@ pub bound-keeps : (kind : Kind) (position : Float) (used : Use) (b : ℤ) → sl
 bound-keeps kind position used b h x y =
     let g = given kind position used b h in
     subst (λ (k : ℤ). ((x -ℤ y) ≤ℤ k) ↔ KeepsValue used x y (numerator kind position) (denominator kind position)) (g .is)
-    (keeps used x y (numerator kind position) (denominator kind position) (g .parted))
+    (keeps used x y (numerator kind position) (denominator kind position) (g .some))
 
 -- ---- the least wait
 pred-lt : (z : ℤ) → T (ltZ (predℤ z) z)
@@ -109,4 +109,4 @@ least-wait kind position b h =
     let z = numerator kind position in
     let d = denominator kind position in
     subst (λ (w : ℤ). (z ≤ℤ (w *ℤ pos d)) × (((w -ℤ pos 1) *ℤ pos d) <ℤ z)) (sym (negℤ-negℤ (ceiling z d)) ∙ ap negℤ (g .is))
-    (ceiling-smallest z d (g .parted) .0, under-ceiling z d (g .parted))
+    (ceiling-smallest z d (g .some) .0, under-ceiling z d (g .some))

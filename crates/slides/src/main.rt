@@ -104,8 +104,8 @@ fn fixed() {
     show_fixed(b"Fixed -0.5", -0.5);
     show_fixed(b"Fixed 2.5", 2.5);
     show_fixed(b"Fixed -2", -2.0);
-    show_fixed(b"Fixed 100000.5", 100000.5);
     show_fixed(b"Fixed 100000", 100000.0);
+    show_fixed(b"Fixed 100000.5", 100000.5);
     show_fixed(b"Fixed 100001", 100001.0);
     show_fixed(b"Fixed -100000", -100000.0);
     show_fixed(b"Fixed -100000.5", -100000.5);

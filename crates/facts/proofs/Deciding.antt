@@ -7,14 +7,13 @@ use mathlib.Core.Bool.{true, false, true≢false, false≢true}
 use native.Mathlib.Omega.{arith}
 use native.Mathlib.Decide.{decLt}
 use lib.ListN.{length, getD, replicate}
-use lib.Seq.{ext-getD}
 use Rattle.meaning.specs.Limits.{blankByte}
 use Rattle.problem.specs.Arcs.{bias, at, Net, head, tail}
 use Rattle.facts.specs.Tests.{farthest, Within}
-use Rattle.facts.specs.Rounds.{Under, rows, Rounds, Rising}
+use Rattle.facts.specs.Rounds.{Under, rows, Rounds, Ended, Rising}
 use Rattle.facts.specs.Walk.{Cycle, IsFact, Risen, Walked, Repeats, TestsFrom, seg, padded}
-use Rattle.facts.proofs.Rounding.{rows-length, rows-grow, rows-under, rows-bounded, still-holds}
-use Rattle.facts.proofs.Tables.{started}
+use Rattle.facts.proofs.Rounding.{rows-under, rows-bounded, rows-mono, still-holds}
+use Rattle.facts.proofs.Tables.{started, none-changed}
 use Rattle.facts.proofs.Walking.{walk-cycle, seg-length}
 
 pub within-more : (g : Net) (L : List ℕ) (n m : ℕ) → n ≤ m → Within g L n → Within g L m
@@ -53,24 +52,28 @@ module _ (g : Net) (L : List ℕ) (n : ℕ) (b : Within g L n) (p : 1 ≤ n) (w 
       subst (λ (k : ℕ). Cycle g L (seg arcs i k)) (sym f)
       (walk-cycle g L z nodes arcs n s n b (omega arith) i (d - 1) (omega (arith, r .within, r .some)) (r .again ∙ ap (λ (k : ℕ). at nodes (i + k)) f))
 
-  module _ (t : List (List ℕ)) (h : Rounds g L z n t) (u : Under g L z) where
-    prev : getD t (n - 1) [] ≡ rows g L z (n - 1)
-    prev = h .row (n - 1) (omega arith)
+  module _ (t : List (List ℕ)) (k : ℕ) (h : Ended g L z n k t) (u : Under g L z) where
+    -- the last two rows are those that n rounds have
+    prev : getD t (k - 1) [] ≡ rows g L z (n - 1)
+    prev = h .rounds .row (k - 1) (omega arith) ∙ h .before
+
+    final : getD t k [] ≡ rows g L z n
+    final = h .rounds .row k (omega arith) ∙ h .last
 
     -- the walk is one through the rounds from the start
     from-start : (nodes arcs : List ℕ) → Walked g L (getD t 0 []) nodes arcs 0 n → Walked g L z nodes arcs 0 n
-    from-start nodes arcs s = subst (λ (y : List ℕ). Walked g L y nodes arcs 0 n) (sym (started g L z n t h)) s
+    from-start nodes arcs s = subst (λ (y : List ℕ). Walked g L y nodes arcs 0 n) (sym (started g L z k t (h .rounds))) s
 
-    pub nodes-below : (nodes arcs : List ℕ) → Walked g L (getD t 0 []) nodes arcs 0 n → (k : ℕ) → k ≤ n → at nodes k < n
+    pub nodes-below : (nodes arcs : List ℕ) → Walked g L (getD t 0 []) nodes arcs 0 n → (i : ℕ) → i ≤ n → at nodes i < n
     nodes-below nodes arcs s = walked-below nodes arcs (from-start nodes arcs s)
 
-    before-under : Under g L (getD t (n - 1) [])
+    before-under : Under g L (getD t (k - 1) [])
     before-under = rw prev (rows-under g L n b z (omega arith) u (n - 1))
 
-    before-risen : (m : ℕ) → ((v : ℕ) → at z v ≤ m) → (v : ℕ) → at (getD t (n - 1) []) v ≤ m + (n - 1) * bias
+    before-risen : (m : ℕ) → ((v : ℕ) → at z v ≤ m) → (v : ℕ) → at (getD t (k - 1) []) v ≤ m + (n - 1) * bias
     before-risen m s v = rw prev (rows-bounded g L n b z (omega arith) m s (n - 1) v)
 
-    pub tests-no : (nodes arcs row : List ℕ) (i d : ℕ) → Walked g L (getD t 0 []) nodes arcs 0 n → Repeats n nodes i d → row ≡ padded w (seg arcs i d) → TestsFrom g L z w n false (getD t (n - 1) []) row
+    pub tests-no : (nodes arcs row : List ℕ) (i d : ℕ) → Walked g L (getD t 0 []) nodes arcs 0 n → Repeats n nodes i d → row ≡ padded w (seg arcs i d) → TestsFrom g L z w n false (getD t (k - 1) []) row
     tests-no nodes arcs row i d s r e =
         record {
           keeps = λ y. absurd (false≢true y);
@@ -80,28 +83,34 @@ module _ (g : Net) (L : List ℕ) (n : ℕ) (b : Within g L n) (p : 1 ≤ n) (w 
           blank = λ y. absurd (false≢true y);
         }
 
-    module _ (v : ℕ) (r : Rising w (getD t (n - 1) []) (getD t n []) v) where
-      pub risen : ((u : ℕ) → at z u ≤ farthest) → v < w → Risen g L t w n v
+    module _ (v : ℕ) (r : Rising n (getD t (k - 1) []) (getD t k []) v) where
+      -- where an event rose in the last round that was made, all n were: had some been left out, the times before it would be those before round n, which are no lower than those after it
+      all-made : v < n → k ≡ n
+      all-made l = go (decLt k n)
+        where
+          go : Dec (k < n) → k ≡ n
+          go (yes m) =
+              let e : k + (n - 1 - k) ≡ n - 1 = omega (arith, m) in
+              let a : at (rows g L z k) v ≤ at (rows g L z (n - 1)) v = subst (λ (i : ℕ). at (rows g L z k) v ≤ at (rows g L z i) v) e (rows-mono g L n b z (omega arith) k (n - 1 - k) v) in
+              let c : at (rows g L z (n - 1)) v < at (rows g L z k) v = rw (prev, h .rounds .row k (omega arith)) at (r .rises l) in
+              absurd (omega arith)
+          go (no m) = omega (arith, h .most)
+
+      pub risen : ((u : ℕ) → at z u ≤ farthest) → v < n → Risen g L t w n v
       risen low l =
-          let e : z ≡ getD t 0 [] = started g L z n t h in
+          let e : z ≡ getD t 0 [] = started g L z k t (h .rounds) in
           record {
-            rounds = subst (λ (s : List ℕ). Rounds g L s n t) e h;
+            rounds = subst (λ (s : List ℕ). Rounds g L s n t) e (subst (λ (i : ℕ). Rounds g L z i t) (all-made l) (h .rounds));
             long = sym (ap length e) ∙ len;
             low = subst (λ (s : List ℕ). (u : ℕ) → at s u ≤ farthest) e low;
-            event = l;
-            rose = subst (λ (s : List ℕ). at (rows g L s (n - 1)) v < at (rows g L s n) v) e (rw (prev, h .row n (omega arith)) at (r .rises l));
+            event = omega arith;
+            rose = subst (λ (s : List ℕ). at (rows g L s (n - 1)) v < at (rows g L s n) v) e (rw (prev, final) at (r .rises l));
           }
 
-      still : w ≤ v → rows g L z (suc (n - 1)) ≡ rows g L z (n - 1)
-      still l = ext-getD 0 (rows g L z (suc (n - 1))) (rows g L z (n - 1)) (rows-length g L z (suc (n - 1)) ∙ sym (rows-length g L z (n - 1))) each
-        where
-          each : (u : ℕ) → u < length (rows g L z (suc (n - 1))) → at (rows g L z (suc (n - 1))) u ≡ at (rows g L z (n - 1)) u
-          each u k =
-              let m : at (rows g L z n) u ≤ at (rows g L z (n - 1)) u = rw (prev, h .row n (omega arith)) at (r .none (omega (arith, r .most)) u (omega (arith, rows-length g L z (suc (n - 1))))) in
-              let e : n ≡ suc (n - 1) = omega arith in
-              omega (arith, ap (λ (k : ℕ). at (rows g L z k) u) e, rows-grow g L n b z (omega arith) (n - 1) u)
+      still : n ≤ v → rows g L z (suc (n - 1)) ≡ rows g L z (n - 1)
+      still = none-changed g L z n (n - 1) v (getD t (k - 1) []) (getD t k []) prev (final ∙ ap (λ (i : ℕ). rows g L z i) (omega arith)) r b (omega arith)
 
-      pub tests-yes : (row : List ℕ) → w ≤ v → row ≡ replicate w blankByte → TestsFrom g L z w n true (getD t (n - 1) []) row
+      pub tests-yes : (row : List ℕ) → n ≤ v → row ≡ replicate w blankByte → TestsFrom g L z w n true (getD t (k - 1) []) row
       tests-yes row l e =
           record {
             keeps = λ _. rw prev (still-holds g L n b z (omega arith) (n - 1) (still l));

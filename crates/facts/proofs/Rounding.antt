@@ -8,7 +8,7 @@ use native.Mathlib.Omega.{arith}
 use native.Mathlib.Decide.{decLt, ℕ-discrete}
 use native.Mathlib.Nat.{add-zero, add-suc}
 use lib.ListN.{length, length-set}
-use lib.Seq.{getD-set-same, getD-set-other}
+use lib.Seq.{getD-set-same, getD-set-other, ext-getD}
 use Rattle.problem.specs.Arcs.{bias, at, Net, head, tail, bound}
 use Rattle.facts.specs.Tests.{Within}
 use Rattle.facts.specs.Rounds.{Holds, Under, relax, upto, round, rows}
@@ -135,6 +135,16 @@ unfolding rows
 rows-length g L z zero = refl
 rows-length g L z (suc k) = upto-length g L (rows g L z k) (length L) ∙ rows-length g L z k
 
+-- a round that changes no time is followed only by the same: each begins with the times that the one before it left
+module _ (g : Net) (L z : List ℕ) (k : ℕ) (e : rows g L z (suc k) ≡ rows g L z k) where
+  same-more : (d : ℕ) → rows g L z (k + d) ≡ rows g L z k
+  unfolding rows
+  same-more zero = ap (λ (m : ℕ). rows g L z m) (add-zero k)
+  same-more (suc d) = ap (λ (m : ℕ). rows g L z m) (add-suc k d) ∙ ap (λ (s : List ℕ). round g L s) (same-more d) ∙ e
+
+  pub same-after : (m : ℕ) → k ≤ m → rows g L z m ≡ rows g L z k
+  same-after m h = ap (λ (i : ℕ). rows g L z i) (omega arith) ∙ same-more (m - k)
+
 module _ (g : Net) (L : List ℕ) (n : ℕ) (b : Within g L n) (z : List ℕ) (long : n ≤ length z) where
   fits-row : (k : ℕ) → n ≤ length (rows g L z k)
   fits-row k = omega (arith, rows-length g L z k)
@@ -166,6 +176,14 @@ module _ (g : Net) (L : List ℕ) (n : ℕ) (b : Within g L n) (z : List ℕ) (l
   pub rose : (k v : ℕ) → at (rows g L z k) v < at (rows g L z (suc k)) v → Raised g L (rows g L z k) (rows g L z (suc k)) v
   unfolding rows
   rose k v h = upto-raised g L n b (rows g L z k) (fits-row k) (length L) (omega arith) v h
+
+  -- a round that raised none of the n events changed no time: no fact has a head beyond them
+  pub none-rose : (k : ℕ) → ((u : ℕ) → u < n → at (rows g L z (suc k)) u ≤ at (rows g L z k) u) → rows g L z (suc k) ≡ rows g L z k
+  none-rose k h = ext-getD 0 (rows g L z (suc k)) (rows g L z k) (rows-length g L z (suc k) ∙ sym (rows-length g L z k)) (λ u _. go u (decLt (at (rows g L z k) u) (at (rows g L z (suc k)) u)))
+    where
+      go : (u : ℕ) → Dec (at (rows g L z k) u < at (rows g L z (suc k)) u) → at (rows g L z (suc k)) u ≡ at (rows g L z k) u
+      go u (yes l) = let (i, r) = rose k u l in absurd (omega (arith, h u (omega (arith, b .known .each i (r .below) .in-head, r .raises .heads))))
+      go u (no l) = omega (arith, rows-grow k u)
 
   -- in round k + 2 by one whose tail rose just before
   pub rose-before : (k v i : ℕ) → RaisedBy g L (rows g L z (suc k)) (rows g L z (suc (suc k))) v i → at (rows g L z (suc k)) v < at (rows g L z (suc (suc k))) v → at (rows g L z k) (tail g (at L i)) < at (rows g L z (suc k)) (tail g (at L i))

@@ -1,6 +1,6 @@
--- A table of the rounds' times, row by row, and a fact that raises an event between two rows. Assumes nothing.
+-- A table of the rounds' times, row by row, where the rounds may end, and a fact that raises an event between two rows. Assumes nothing.
 use Prim.Native.Nat.{ℕ, suc, _+_, _*_, _-_, _≤_, _<_, max}
-use mathlib.Core.Path.{_≡_, sym, ap, _∙_}
+use mathlib.Core.Path.{_≡_, refl, sym, ap, _∙_}
 use mathlib.Core.Bool.{false}
 use mathlib.Core.List.{List, []}
 use native.Mathlib.Omega.{arith}
@@ -10,11 +10,12 @@ use lib.Dec.{eqb}
 use lib.ListN.{length, getD, set}
 use lib.Seq.{getD-set-same, getD-set-other}
 use borrow.Author.Tests.{eqb-true, eqb-false}
+use borrow.Author.Count.{below-more}
 use Rattle.problem.specs.Arcs.{bias, at, Net, head, tail, bound}
 use Rattle.facts.specs.Tests.{Within}
-use Rattle.facts.specs.Rounds.{relax, upto, round, rows, Rounds}
+use Rattle.facts.specs.Rounds.{relax, upto, round, rows, Rounds, Moving, Ended, Rising}
 use Rattle.facts.specs.Walk.{Raises, Says}
-use Rattle.facts.proofs.Rounding.{rows-bounded}
+use Rattle.facts.proofs.Rounding.{rows-bounded, same-after, none-rose}
 
 -- a turn of a round's loop
 pub upto-more : (g : Net) (L s nxt : List ℕ) (i j x y r : ℕ) → nxt ≡ upto g L s i → j ≡ at L i → x ≡ head g j → y ≡ tail g j → r ≡ max (at nxt x) (at s y + bias - bound g j) → set nxt x r ≡ upto g L s (i + 1)
@@ -26,24 +27,49 @@ module _ (g : Net) (L z : List ℕ) (t : List (List ℕ)) where
   unfolding rows
   rounds-first e k l = record { row = λ i h. let q : i ≡ 0 = omega arith in rw q e }
 
-  -- a turn of the table's loop
+  -- the round of a table's row is the next of the rounds
+  pub next-round : (k : ℕ) → Rounds g L z k t → (r : List ℕ) → r ≡ round g L (getD t k []) → r ≡ rows g L z (suc k)
+  next-round k h r e = e ∙ unfold rows in ap (λ (s : List ℕ). round g L s) (h .row k (omega arith))
+
+  -- a turn of the rounds' loop
   pub rounds-more : (k : ℕ) → Rounds g L z k t → k + 1 < length t → (r : List ℕ) → r ≡ round g L (getD t k []) → Rounds g L z (k + 1) (set t (k + 1) r)
   rounds-more k h l r e = record { row = λ i b. go i b (decLe i k) }
     where
-      new : r ≡ rows g L z (suc k)
-      new = e ∙ unfold rows in ap (λ (s : List ℕ). round g L s) (h .row k (omega arith))
-
       go : (i : ℕ) → i ≤ k + 1 → Dec (i ≤ k) → getD (set t (k + 1) r) i [] ≡ rows g L z i
       go i b (yes c) = getD-set-other t (k + 1) i r [] (omega arith) ∙ h .row i c
-      go i b (no c) = let q : i ≡ k + 1 = omega arith in rw q (getD-set-same t (k + 1) r [] l ∙ new ∙ ap (λ (m : ℕ). rows g L z m) (sym (add-one k)))
+      go i b (no c) = let q : i ≡ k + 1 = omega arith in rw q (getD-set-same t (k + 1) r [] l ∙ next-round k h r e ∙ ap (λ (m : ℕ). rows g L z m) (sym (add-one k)))
 
-  -- fewer rounds
-  pub rounds-fewer : (k n : ℕ) → Rounds g L z k t → n ≤ k → Rounds g L z n t
-  rounds-fewer k n h l = record { row = λ i b. h .row i (omega arith) }
+  -- the rounds may end when all are made
+  pub ended-all : (n k : ℕ) → 1 ≤ n → k ≡ n → Rounds g L z k t → Moving g L z k → Ended g L z n k t
+  ended-all n k p e h c = record { some = omega arith; most = omega arith; rounds = h; moving = record { each = λ i l. c .each i (omega arith) }; before = rw e refl; last = rw e refl }
+
+  -- and after one that changed no time, since all that follow it leave the times as they are
+  pub ended-still : (n k : ℕ) → k < n → rows g L z (suc k) ≡ rows g L z k → Rounds g L z (k + 1) t → Moving g L z k → Ended g L z n (k + 1) t
+  ended-still n k l e h c =
+      let same : (m i : ℕ) → k ≤ m → k ≤ i → rows g L z m ≡ rows g L z i = λ m i a b. same-after g L z k e m a ∙ sym (same-after g L z k e i b) in
+      record {
+        some = omega arith;
+        most = omega arith;
+        rounds = h;
+        moving = record { each = λ i m. c .each i (omega arith) };
+        before = same (k + 1 - 1) (n - 1) (omega arith) (omega arith);
+        last = same (k + 1) n (omega arith) (omega arith);
+      }
 
   -- no row of w rounds at the most lies more than w times the bias above the start
   pub rounds-small : (w m : ℕ) → Within g L w → w ≤ length z → ((v : ℕ) → at z v ≤ m) → (n k : ℕ) → Rounds g L z n t → k ≤ n → n ≤ w → (v : ℕ) → at (getD t k []) v ≤ m + w * bias
   rounds-small w m b long u n k h l q v = rw (h .row k l) (omega (arith, rows-bounded g L w b z long m u k v))
+
+pub moving-more : (g : Net) (L z : List ℕ) (k : ℕ) → Moving g L z k → (rows g L z (suc k) ≡ rows g L z k → ⊥) → Moving g L z (k + 1)
+moving-more g L z k m h = record { each = below-more _ _ (m .each) h }
+
+-- whether round k + 1 changed a time, by the first of n events that rose in it
+module _ (g : Net) (L z : List ℕ) (n k v : ℕ) (s r : List ℕ) (p : s ≡ rows g L z k) (q : r ≡ rows g L z (suc k)) (h : Rising n s r v) where
+  pub some-changed : v < n → rows g L z (suc k) ≡ rows g L z k → ⊥
+  some-changed l e = omega (arith, h .rises l, ap (λ (t : List ℕ). at t v) (p ∙ sym e ∙ sym q))
+
+  pub none-changed : Within g L n → n ≤ length z → n ≤ v → rows g L z (suc k) ≡ rows g L z k
+  none-changed b long l = none-rose g L n b z long k (λ u m. rw (p, q) at (h .none (omega (arith, h .most)) u m))
 
 -- a table's rounds start from its first row
 pub started : (g : Net) (L s : List ℕ) (n : ℕ) (t : List (List ℕ)) → Rounds g L s n t → s ≡ getD t 0 []

@@ -45,6 +45,19 @@ ceiling = farthest + mostEvents * bias
 pub record Rounds (g : Net) (L z : List ℕ) (n : ℕ) (t : List (List ℕ)) : Type 0 where
   pub row : (k : ℕ) → k ≤ n → getD t k [] ≡ rows g L z k
 
+-- each of the first k rounds changes a time
+pub record Moving (g : Net) (L z : List ℕ) (k : ℕ) : Type 0 where
+  pub each : (i : ℕ) → i < k → rows g L z (suc i) ≡ rows g L z i → ⊥
+
+-- k rounds of n were made, row by row in t: each before the last changed a time, and those left out would change none
+pub record Ended (g : Net) (L z : List ℕ) (n k : ℕ) (t : List (List ℕ)) : Type 0 where
+  pub some : 1 ≤ k
+  pub most : k ≤ n
+  pub rounds : Rounds g L z k t
+  pub moving : Moving g L z (k - 1)
+  pub before : rows g L z (k - 1) ≡ rows g L z (n - 1)
+  pub last : rows g L z k ≡ rows g L z n
+
 -- the first of w events that is nearer to closing in s than in r, or w
 pub record Rising (w : ℕ) (s r : List ℕ) (v : ℕ) : Type 0 where
   pub most : v ≤ w

@@ -3,8 +3,9 @@
 mod rounds;
 mod walk;
 
+use rounds::ROWS;
+use rounds::put_rounds;
 use rounds::rising;
-use rounds::table;
 use walk::repeat;
 use walk::row_of;
 use walk::walk_back;
@@ -44,11 +45,12 @@ fn test_from(
     requires { ⌜ Within (net (now xs) (now ys) (now bs)) (now facts) n × (1 ≤ n) × (n ≤ mostEvents) × ((v : ℕ) → at start v ≤ farthest) × Under (net (now xs) (now ys) (now bs)) (now facts) start ⌝ }
     ensures { λ r. ⌜ TestsFrom (net (now (xs .entry)) (now (ys .entry)) (now (bs .entry))) (now (facts .entry)) start mostEvents n (r .ok) (r .times) (r .row) ⌝ }
 {
-    let t = table(xs, ys, bs, facts, n, start);
-    let last = t[n];
-    let before = t[n - 1];
-    let v = rising(before, last);
-    if v < EVENTS {
+    let mut t = [[0; EVENTS]; ROWS];
+    let k = put_rounds(xs, ys, bs, facts, n, start, &mut t);
+    let last = t[k];
+    let before = t[k - 1];
+    let v = rising(before, last, n);
+    if v < n {
         let w = walk_back(xs, ys, bs, facts, t, n, v as u8);
         let nodes = w.nodes;
         let arcs = w.arcs;

@@ -1,11 +1,12 @@
-// The rounds of a test: in a round each fact raises the time of its head, going by the times before the round.
+// The rounds of a test: in a round each fact raises the time of its head, going by the times before the round. They end with the first that raises no event.
 use crate::EVENTS;
 ghost use mathlib.Core.Path.{_≡_};
 ghost use Prim.Native.Nat.{ℕ, _+_, _-_, _≤_, max};
+ghost use lib.ListN.{length};
 ghost use Rattle.meaning.specs.Limits.{mostEvents};
 ghost use Rattle.problem.specs.Arcs.{at, net};
 ghost use Rattle.facts.specs.Tests.{farthest, Within};
-ghost use Rattle.facts.specs.Rounds.{ceiling, round, Rounds, Rising};
+ghost use Rattle.facts.specs.Rounds.{ceiling, round, Ended, Rising};
 
 // What is added to a bound.
 pub const BIAS: u32 = 100001;
@@ -49,19 +50,19 @@ fn round_of(xs: &[u8], ys: &[u8], bs: &[u32], facts: &[u8], cur: [u32; EVENTS]) 
     nxt
 }
 
-// The rounds from start: row k has the times after k rounds, for k up to n.
-pub fn table(
+// The rounds from start in a lent table, row k with the times after k of them, until one raises no event or n are made; gives how many were.
+pub fn put_rounds(
     xs: &[u8],
     ys: &[u8],
     bs: &[u32],
     facts: &[u8],
     n: usize,
     start: [u32; EVENTS],
-) -> [[u32; EVENTS]; ROWS]
-    requires { ⌜ Within (net (now xs) (now ys) (now bs)) (now facts) mostEvents × (n ≤ mostEvents) × ((v : ℕ) → at start v ≤ farthest) ⌝ }
-    ensures { λ r. ⌜ Rounds (net (now (xs .entry)) (now (ys .entry)) (now (bs .entry))) (now (facts .entry)) start n r ⌝ }
+    t: &mut [[u32; EVENTS]],
+) -> usize
+    requires { ⌜ Within (net (now xs) (now ys) (now bs)) (now facts) n × (1 ≤ n) × (n ≤ mostEvents) × ((v : ℕ) → at start v ≤ farthest) × (length (now t) ≡ mostEvents + 1) ⌝ }
+    ensures { λ k. ⌜ Ended (net (now (xs .entry)) (now (ys .entry)) (now (bs .entry))) (now (facts .entry)) start n k (now (t .exit)) ⌝ }
 {
-    let mut t = [[0; EVENTS]; ROWS];
     t[0] = start;
     let mut k = 0;
     while k < n {
@@ -69,16 +70,20 @@ pub fn table(
         let nxt = round_of(xs, ys, bs, facts, cur);
         k += 1;
         t[k] = nxt;
+        if n <= rising(cur, nxt, n) {
+            return k;
+        }
     }
-    t
+    k
 }
 
-// The first event that a round raised, or as many as there are.
-pub fn rising(before: [u32; EVENTS], after: [u32; EVENTS]) -> usize
-    ensures { λ r. ⌜ Rising mostEvents before after r ⌝ }
+// The first of n events that a round raised, or n.
+pub fn rising(before: [u32; EVENTS], after: [u32; EVENTS], n: usize) -> usize
+    requires { ⌜ n ≤ mostEvents ⌝ }
+    ensures { λ r. ⌜ Rising n before after r ⌝ }
 {
     let mut v = 0;
-    while v < EVENTS {
+    while v < n {
         if before[v] < after[v] {
             return v;
         }

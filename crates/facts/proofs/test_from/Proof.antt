@@ -7,8 +7,11 @@ use Rattle.facts.proofs.Deciding.{within-more, risen, nodes-below, test
 use Rattle.facts.proofs.test_from.Statement.{statement}
 use Rattle.facts.proofs.test_from.Tie as tie
 
-table-requires : tie.Need-table-requires
-table-requires c κs = let s = c .before .before .before .before in (within-more _ (s .args .facts .now) (s .args .n) mostEvents (s .pre .2) (s .pre .0), s .pre .2, s .pre .3)
+slice-aggregate-put-rounds : tie.Need-slice-aggregate-put-rounds
+slice-aggregate-put-rounds c = search needs
+
+put-rounds-requires : tie.Need-put-rounds-requires
+put-rounds-requires c κs = search needs
 
 mul-last : tie.Need-mul-last
 mul-last c = search needs
@@ -33,40 +36,42 @@ cast-walk-back c = search needs
 
 walk-back-requires : tie.Need-walk-back-requires
 walk-back-requires c κs =
-    let s = c .before .before .before .before .before .before .before .before .before in
-    let t = c .before .before .before .before .table in
+    let s = c .before .before .before .before .before .before .before .before .before .before .before in
+    let t = c .before .before .before .before .before .put-rounds in
     let r = c .before .rising in
-    (within-more _ (s .args .facts .now) (s .args .n) mostEvents (s .pre .2) (s .pre .0), s .pre .2, s .pre .1, risen _ _ (s .args .n) (s .pre .0) (s .pre .1) mostEvents (s .pre .2) (s .args .start) (omega (arith, s .good)) (t .result) (t .ensures) (s .pre .4) (r .result) (r .ensures) (s .pre .3) (c .if1 .taken))
+    (within-more _ (s .args .facts .now) (s .args .n) mostEvents (s .pre .2) (s .pre .0), s .pre .2, s .pre .1, risen _ _ (s .args .n) (s .pre .0) (s .pre .1) mostEvents (s .pre .2) (s .args .start) (omega (arith, s .good)) _ (t .result) (t .ensures) (s .pre .4) (r .result) (r .ensures) (s .pre .3) (c .if1 .taken))
 
 repeat-requires : tie.Need-repeat-requires
 repeat-requires c κs =
-    let s = c .before .before .before .before .before .before .before .before .before .before .before .before in
-    let t = c .before .before .before .before .before .before .before .table in
+    let s = c .before .before .before .before .before .before .before .before .before .before .before .before .before .before in
+    let t = c .before .before .before .before .before .before .before .before .put-rounds in
     let k = c .before .before .walk-back in
-    (s .pre .2, nodes-below _ _ (s .args .n) (s .pre .0) (s .pre .1) mostEvents (s .pre .2) (s .args .start) (omega (arith, s .good)) (t .result) (t .ensures) (s .pre .4) (k .result .nodes) (k .result .arcs) (k .ensures))
+    (s .pre .2, nodes-below _ _ (s .args .n) (s .pre .0) (s .pre .1) mostEvents (s .pre .2) (s .args .start) (omega (arith, s .good)) _ (t .result) (t .ensures) (s .pre .4) (k .result .nodes) (k .result .arcs) (k .ensures))
 
 row-of-requires : tie.Need-row-of-requires
 row-of-requires c κs = search needs
 
 returns : tie.Need-returns
 returns c =
-    let s = c .before .before .before .before .before .before .before .before .before .before .before .before .before .before in
-    let t = c .before .before .before .before .before .before .before .before .before .table in
+    let s = c .before .before .before .before .before .before .before .before .before .before .before .before .before .before .before .before in
+    let t = c .before .before .before .before .before .before .before .before .before .before .put-rounds in
     let k = c .before .before .before .before .walk-back in
     let p = c .before .repeat in
-    tests-no _ _ (s .args .n) (s .pre .0) (s .pre .1) mostEvents (s .pre .2) (s .args .start) (omega (arith, s .good)) (t .result) (t .ensures) (s .pre .4) (k .result .nodes) (k .result .arcs) (c .row-of .result) (p .result .first) (p .result .more) (k .ensures) (p .ensures) (c .row-of .ensures)
+    tests-no _ _ (s .args .n) (s .pre .0) (s .pre .1) mostEvents (s .pre .2) (s .args .start) (omega (arith, s .good)) _ (t .result) (t .ensures) (s .pre .4) (k .result .nodes) (k .result .arcs) (c .row-of .result) (p .result .first) (p .result .more) (k .ensures) (p .ensures) (c .row-of .ensures)
 
 returns-2 : tie.Need-returns-2
 returns-2 c =
-    let s = c .before .before .before .before .before .before .before .before .before in
-    let t = c .before .before .before .before .table in
-    tests-yes _ _ (s .args .n) (s .pre .0) (s .pre .1) mostEvents (s .pre .2) (s .args .start) (omega (arith, s .good)) (t .result) (t .ensures) (s .pre .4) (c .before .rising .result) (c .before .rising .ensures) _ (c .if1 .left) refl
+    let s = c .before .before .before .before .before .before .before .before .before .before .before in
+    let t = c .before .before .before .before .before .put-rounds in
+    let r = c .before .rising in
+    tests-yes _ _ (s .args .n) (s .pre .0) (s .pre .1) mostEvents (s .pre .2) (s .args .start) (omega (arith, s .good)) _ (t .result) (t .ensures) (s .pre .4) (r .result) (r .ensures) _ (c .if1 .left) refl
 
 pub test-from-spec : {M : Type 1} → statement M
 test-from-spec =
     tie.close
     (tie.spec
-    table-requires
+    slice-aggregate-put-rounds
+    put-rounds-requires
     mul-last
     array-copy-out-last
     sub-before

@@ -2,16 +2,15 @@
 use Prim.Native.Nat.{ℕ, _-_, _≤_, _<_}
 use native.Mathlib.Omega.{arith}
 use borrow.Author.Count.{below-more}
-use Rattle.meaning.specs.Limits.{mostEvents}
 use Rattle.problem.specs.Arcs.{at}
 use Rattle.facts.proofs.rounds.rising.Statement.{statement}
 use Rattle.facts.proofs.rounds.rising.Tie as tie
 
 abbrev Inv-loop : tie.InvT-loop
-Inv-loop before after v₀ v = (v ≤ mostEvents) × ((u : ℕ) → u < v → at after u ≤ at before u)
+Inv-loop n before after v₀ v = (v ≤ n) × ((u : ℕ) → u < v → at after u ≤ at before u)
 
 abbrev μ-loop : tie.MeasureT-loop
-μ-loop before after v₀ v = mostEvents - v
+μ-loop n before after v₀ v = n - v
 
 loop-holds : tie.Need-loop-holds Inv-loop μ-loop
 loop-holds c = (omega arith, λ u h. omega arith)

@@ -27,7 +27,7 @@ module _ (g : Net) (L z : List ℕ) (t : List (List ℕ)) where
   unfolding rows
   rounds-first e k l = record { row = λ i h. let q : i ≡ 0 = omega arith in rw q e }
 
-  -- the round of a table's row is the next of the rounds
+  -- a round from row k is round k + 1
   pub next-round : (k : ℕ) → Rounds g L z k t → (r : List ℕ) → r ≡ round g L (getD t k []) → r ≡ rows g L z (suc k)
   next-round k h r e = e ∙ unfold rows in ap (λ (s : List ℕ). round g L s) (h .row k (omega arith))
 
@@ -60,6 +60,7 @@ module _ (g : Net) (L z : List ℕ) (t : List (List ℕ)) where
   pub rounds-small : (w m : ℕ) → Within g L w → w ≤ length z → ((v : ℕ) → at z v ≤ m) → (n k : ℕ) → Rounds g L z n t → k ≤ n → n ≤ w → (v : ℕ) → at (getD t k []) v ≤ m + w * bias
   rounds-small w m b long u n k h l q v = rw (h .row k l) (omega (arith, rows-bounded g L w b z long m u k v))
 
+-- one round more that changes a time
 pub moving-more : (g : Net) (L z : List ℕ) (k : ℕ) → Moving g L z k → (rows g L z (suc k) ≡ rows g L z k → ⊥) → Moving g L z (k + 1)
 moving-more g L z k m h = record { each = below-more _ _ (m .each) h }
 

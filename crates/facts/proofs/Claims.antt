@@ -1,13 +1,13 @@
--- What the contract of a test settles: two answers that it allows agree, the order and the copies of the facts do not matter, and a test of one fact more may start from the timetable of the others.
+-- What the contract of a test settles: two answers that it allows agree, its rounds end at one place, the order and the copies of the facts do not matter, and a test of one fact more may start from the timetable of the others.
 -- Assumes nothing.
-use Prim.Native.Nat.{ℕ, zero, suc}
+use Prim.Native.Nat.{ℕ, zero, suc, _-_, _≤_, _<_}
 use mathlib.Core.Path.{_≡_, refl, sym, ap, _∙_, subst}
 use mathlib.Core.Bool.{Bool, true}
 use mathlib.Core.List.{List, [], _∷_, map}
 use native.Mathlib.Omega.{arith}
 use lib.Dec.{T}
 use lib.IntN.{ℤ, natAbs}
-use lib.ListN.{take}
+use lib.ListN.{length, take}
 use Rattle.meaning.specs.Problem.{Alternative, Timetable, satisfied, Satisfies, Sound}
 use Rattle.meaning.specs.Plain.{Latest}
 use Rattle.meaning.specs.Decision.{sound, least, timeOf, latestOf}
@@ -16,8 +16,9 @@ use Rattle.meaning.proofs.Deciding.{satisfies-each, each-satisfies, sound-decid
 use Rattle.meaning.proofs.First.{sound-same}
 use Rattle.problem.specs.Arcs.{Net, at, arc}
 use Rattle.facts.specs.Tests.{Within, Tests}
-use Rattle.facts.specs.Rounds.{Under}
+use Rattle.facts.specs.Rounds.{Under, Ended}
 use Rattle.facts.specs.Walk.{IsFact}
+use Rattle.facts.proofs.Tables.{left-out}
 use Rattle.facts.proofs.Joining.{each-fact, fact-each, within-in}
 
 -- the answer and the timetable are determined
@@ -27,6 +28,13 @@ test-one fs n a b s t p q x y = let e : a ≡ b = x .decides ∙ sym (y .decides
 -- what lies under every timetable of the facts lies under every one of theirs with one fact more: a test of these may start there
 pub one-more : (g : Net) (L : List ℕ) (j : ℕ) (s : List ℕ) → Under g L s → Under g (j ∷ L) s
 one-more g L j s u = record { under = λ t h. u .under t (record { each = λ i l. h .each (suc i) (omega arith) }) }
+
+-- the rounds end at one place: at the earlier of two the last would have changed no time, and the later has before its last only rounds that changed one
+pub ended-one : (g : Net) (L : List ℕ) (n : ℕ) → Within g L n → (z : List ℕ) → n ≤ length z → (j k : ℕ) (s t : List (List ℕ)) → Ended g L z n j s → Ended g L z n k t → j ≡ k
+ended-one g L n b z long j k s t x y = omega (arith, later j k s t x y, later k j t s y x)
+  where
+    later : (j k : ℕ) (s t : List (List ℕ)) → Ended g L z n j s → Ended g L z n k t → j < k → ⊥
+    later j k s t x y l = y .moving .each (j - 1) (omega (arith, x .some)) (left-out g L n b z long j s x (omega (arith, y .most)))
 
 -- ---- facts with the same timetables
 minutes : (l : List ℕ) → map natAbs (map timeOf l) ≡ l

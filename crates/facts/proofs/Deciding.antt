@@ -12,8 +12,8 @@ use Rattle.problem.specs.Arcs.{bias, at, Net, head, tail}
 use Rattle.facts.specs.Tests.{farthest, Within}
 use Rattle.facts.specs.Rounds.{Under, rows, Rounds, Ended, Rising}
 use Rattle.facts.specs.Walk.{Cycle, IsFact, Risen, Walked, Repeats, TestsFrom, seg, padded}
-use Rattle.facts.proofs.Rounding.{rows-under, rows-bounded, rows-mono, still-holds}
-use Rattle.facts.proofs.Tables.{started, none-changed}
+use Rattle.facts.proofs.Rounding.{rows-under, rows-bounded, still-holds}
+use Rattle.facts.proofs.Tables.{started, some-changed, none-changed, left-out}
 use Rattle.facts.proofs.Walking.{walk-cycle, seg-length}
 
 pub within-more : (g : Net) (L : List ℕ) (n m : ℕ) → n ≤ m → Within g L n → Within g L m
@@ -84,16 +84,14 @@ module _ (g : Net) (L : List ℕ) (n : ℕ) (b : Within g L n) (p : 1 ≤ n) (w 
         }
 
     module _ (v : ℕ) (r : Rising n (getD t (k - 1) []) (getD t k []) v) where
-      -- where an event rose in the last round that was made, all n were: had some been left out, the times before it would be those before round n, which are no lower than those after it
+      -- where an event rose in the last round that was made, none was left out
       all-made : v < n → k ≡ n
       all-made l = go (decLt k n)
         where
           go : Dec (k < n) → k ≡ n
           go (yes m) =
-              let e : k + (n - 1 - k) ≡ n - 1 = omega (arith, m) in
-              let a : at (rows g L z k) v ≤ at (rows g L z (n - 1)) v = subst (λ (i : ℕ). at (rows g L z k) v ≤ at (rows g L z i) v) e (rows-mono g L n b z (omega arith) k (n - 1 - k) v) in
-              let c : at (rows g L z (n - 1)) v < at (rows g L z k) v = rw (prev, h .rounds .row k (omega arith)) at (r .rises l) in
-              absurd (omega arith)
+              let e : suc (k - 1) ≡ k = omega (arith, h .some) in
+              absurd (some-changed g L z n (k - 1) v (getD t (k - 1) []) (getD t k []) (h .rounds .row (k - 1) (omega arith)) (h .rounds .row k (omega arith) ∙ ap (λ (i : ℕ). rows g L z i) (sym e)) r l (left-out g L n b z (omega arith) k t h m))
           go (no m) = omega (arith, h .most)
 
       pub risen : ((u : ℕ) → at z u ≤ farthest) → v < n → Risen g L t w n v

@@ -13,9 +13,9 @@ use borrow.Author.Tests.{eqb-true, eqb-false}
 use borrow.Author.Count.{below-more}
 use Rattle.problem.specs.Arcs.{bias, at, Net, head, tail, bound}
 use Rattle.facts.specs.Tests.{Within}
-use Rattle.facts.specs.Rounds.{relax, upto, round, rows, Rounds, Moving, Ended, Rising}
+use Rattle.facts.specs.Rounds.{relax, upto, round, rows, Rounds, Moving, Ended, Stays, Rising}
 use Rattle.facts.specs.Walk.{Raises, Says}
-use Rattle.facts.proofs.Rounding.{rows-bounded, same-after, none-rose}
+use Rattle.facts.proofs.Rounding.{rows-bounded, rows-mono, same-after, none-rose}
 
 -- a turn of a round's loop
 pub upto-more : (g : Net) (L s nxt : List ℕ) (i j x y r : ℕ) → nxt ≡ upto g L s i → j ≡ at L i → x ≡ head g j → y ≡ tail g j → r ≡ max (at nxt x) (at s y + bias - bound g j) → set nxt x r ≡ upto g L s (i + 1)
@@ -60,6 +60,14 @@ module _ (g : Net) (L z : List ℕ) (t : List (List ℕ)) where
   pub rounds-small : (w m : ℕ) → Within g L w → w ≤ length z → ((v : ℕ) → at z v ≤ m) → (n k : ℕ) → Rounds g L z n t → k ≤ n → n ≤ w → (v : ℕ) → at (getD t k []) v ≤ m + w * bias
   rounds-small w m b long u n k h l q v = rw (h .row k l) (omega (arith, rows-bounded g L w b z long m u k v))
 
+-- a store in a row leaves the rows after it
+pub stays-stored : (s t : List (List ℕ)) (r : List ℕ) (k m : ℕ) → k ≤ m → Stays k s t → Stays m s (set t m r)
+stays-stored s t r k m l h = record { same = λ i b. getD-set-other t m i r [] (omega arith) ∙ h .same i (omega arith) }
+
+-- rows that stay from a store before them on stay from before it on
+pub stays-since : (s t : List (List ℕ)) (r : List ℕ) (m k : ℕ) → m ≤ k → Stays k (set s m r) t → Stays k s t
+stays-since s t r m k l h = record { same = λ i b. h .same i b ∙ getD-set-other s m i r [] (omega arith) }
+
 -- one round more that changes a time
 pub moving-more : (g : Net) (L z : List ℕ) (k : ℕ) → Moving g L z k → (rows g L z (suc k) ≡ rows g L z k → ⊥) → Moving g L z (k + 1)
 moving-more g L z k m h = record { each = below-more _ _ (m .each) h }
@@ -71,6 +79,13 @@ module _ (g : Net) (L z : List ℕ) (n k v : ℕ) (s r : List ℕ) (p : s ≡ ro
 
   pub none-changed : Within g L n → n ≤ length z → n ≤ v → rows g L z (suc k) ≡ rows g L z k
   none-changed b long l = none-rose g L n b z long k (λ u m. rw (p, q) at (h .none (omega (arith, h .most)) u m))
+
+-- where some of n rounds were left out, the last that was made changed no time: no round lowers one, and the times before round n are those before it
+pub left-out : (g : Net) (L : List ℕ) (n : ℕ) → Within g L n → (z : List ℕ) → n ≤ length z → (k : ℕ) (t : List (List ℕ)) → Ended g L z n k t → k < n → rows g L z (suc (k - 1)) ≡ rows g L z (k - 1)
+left-out g L n b z long k t h l =
+    none-rose g L n b z long (k - 1) (λ u _.
+    let e : suc (k - 1) + (n - 1 - k) ≡ n - 1 = omega (arith, h .some) in
+    omega (arith, rows-mono g L n b z long (suc (k - 1)) (n - 1 - k) u, ap (λ (i : ℕ). at (rows g L z i) u) e, ap (λ (s : List ℕ). at s u) (h .before)))
 
 -- a table's rounds start from its first row
 pub started : (g : Net) (L s : List ℕ) (n : ℕ) (t : List (List ℕ)) → Rounds g L s n t → s ≡ getD t 0 []

@@ -58,6 +58,10 @@ pub record Ended (g : Net) (L z : List ℕ) (n k : ℕ) (t : List (List ℕ)) : 
   pub before : rows g L z (k - 1) ≡ rows g L z (n - 1)
   pub last : rows g L z k ≡ rows g L z n
 
+-- the rows of t after row k are those of s
+pub record Stays (k : ℕ) (s t : List (List ℕ)) : Type 0 where
+  pub same : (i : ℕ) → k < i → getD t i [] ≡ getD s i []
+
 -- the first of w events that is nearer to closing in s than in r, or w
 pub record Rising (w : ℕ) (s r : List ℕ) (v : ℕ) : Type 0 where
   pub most : v ≤ w

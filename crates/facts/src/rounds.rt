@@ -6,7 +6,7 @@ ghost use lib.ListN.{length};
 ghost use Rattle.meaning.specs.Limits.{mostEvents};
 ghost use Rattle.problem.specs.Arcs.{at, net};
 ghost use Rattle.facts.specs.Tests.{farthest, Within};
-ghost use Rattle.facts.specs.Rounds.{ceiling, round, Ended, Rising};
+ghost use Rattle.facts.specs.Rounds.{ceiling, round, Ended, Stays, Rising};
 
 // What is added to a bound.
 pub const BIAS: u32 = 100001;
@@ -50,7 +50,7 @@ fn round_of(xs: &[u8], ys: &[u8], bs: &[u32], facts: &[u8], cur: [u32; EVENTS]) 
     nxt
 }
 
-// The rounds from start in a lent table, row k with the times after k of them, until one raises no event or n are made; gives how many were.
+// The rounds from start in a lent table, row k with the times after k of them, until one raises no event or n are made; gives how many were. The rows after them stay.
 pub fn put_rounds(
     xs: &[u8],
     ys: &[u8],
@@ -61,7 +61,7 @@ pub fn put_rounds(
     t: &mut [[u32; EVENTS]],
 ) -> usize
     requires { ⌜ Within (net (now xs) (now ys) (now bs)) (now facts) n × (1 ≤ n) × (n ≤ mostEvents) × ((v : ℕ) → at start v ≤ farthest) × (length (now t) ≡ mostEvents + 1) ⌝ }
-    ensures { λ k. ⌜ Ended (net (now (xs .entry)) (now (ys .entry)) (now (bs .entry))) (now (facts .entry)) start n k (now (t .exit)) ⌝ }
+    ensures { λ k. ⌜ Ended (net (now (xs .entry)) (now (ys .entry)) (now (bs .entry))) (now (facts .entry)) start n k (now (t .exit)) × Stays k (now (t .entry)) (now (t .exit)) ⌝ }
 {
     t[0] = start;
     let mut k = 0;

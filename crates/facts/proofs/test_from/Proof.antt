@@ -39,14 +39,14 @@ walk-back-requires c κs =
     let s = c .before .before .before .before .before .before .before .before .before .before .before in
     let t = c .before .before .before .before .before .put-rounds in
     let r = c .before .rising in
-    (within-more _ (s .args .facts .now) (s .args .n) mostEvents (s .pre .2) (s .pre .0), s .pre .2, s .pre .1, risen _ _ (s .args .n) (s .pre .0) (s .pre .1) mostEvents (s .pre .2) (s .args .start) (omega (arith, s .good)) _ (t .result) (t .ensures) (s .pre .4) (r .result) (r .ensures) (s .pre .3) (c .if1 .taken))
+    (within-more _ (s .args .facts .now) (s .args .n) mostEvents (s .pre .2) (s .pre .0), s .pre .2, s .pre .1, risen _ _ (s .args .n) (s .pre .0) (s .pre .1) mostEvents (s .pre .2) (s .args .start) (omega (arith, s .good)) _ (t .result) (t .ensures .0) (s .pre .4) (r .result) (r .ensures) (s .pre .3) (c .if1 .taken))
 
 repeat-requires : tie.Need-repeat-requires
 repeat-requires c κs =
     let s = c .before .before .before .before .before .before .before .before .before .before .before .before .before .before in
     let t = c .before .before .before .before .before .before .before .before .put-rounds in
     let k = c .before .before .walk-back in
-    (s .pre .2, nodes-below _ _ (s .args .n) (s .pre .0) (s .pre .1) mostEvents (s .pre .2) (s .args .start) (omega (arith, s .good)) _ (t .result) (t .ensures) (s .pre .4) (k .result .nodes) (k .result .arcs) (k .ensures))
+    (s .pre .2, nodes-below _ _ (s .args .n) (s .pre .0) (s .pre .1) mostEvents (s .pre .2) (s .args .start) (omega (arith, s .good)) _ (t .result) (t .ensures .0) (s .pre .4) (k .result .nodes) (k .result .arcs) (k .ensures))
 
 row-of-requires : tie.Need-row-of-requires
 row-of-requires c κs = search needs
@@ -57,14 +57,14 @@ returns c =
     let t = c .before .before .before .before .before .before .before .before .before .before .put-rounds in
     let k = c .before .before .before .before .walk-back in
     let p = c .before .repeat in
-    tests-no _ _ (s .args .n) (s .pre .0) (s .pre .1) mostEvents (s .pre .2) (s .args .start) (omega (arith, s .good)) _ (t .result) (t .ensures) (s .pre .4) (k .result .nodes) (k .result .arcs) (c .row-of .result) (p .result .first) (p .result .more) (k .ensures) (p .ensures) (c .row-of .ensures)
+    tests-no _ _ (s .args .n) (s .pre .0) (s .pre .1) mostEvents (s .pre .2) (s .args .start) (omega (arith, s .good)) _ (t .result) (t .ensures .0) (s .pre .4) (k .result .nodes) (k .result .arcs) (c .row-of .result) (p .result .first) (p .result .more) (k .ensures) (p .ensures) (c .row-of .ensures)
 
 returns-2 : tie.Need-returns-2
 returns-2 c =
     let s = c .before .before .before .before .before .before .before .before .before .before .before in
     let t = c .before .before .before .before .before .put-rounds in
     let r = c .before .rising in
-    tests-yes _ _ (s .args .n) (s .pre .0) (s .pre .1) mostEvents (s .pre .2) (s .args .start) (omega (arith, s .good)) _ (t .result) (t .ensures) (s .pre .4) (r .result) (r .ensures) _ (c .if1 .left) refl
+    tests-yes _ _ (s .args .n) (s .pre .0) (s .pre .1) mostEvents (s .pre .2) (s .args .start) (omega (arith, s .good)) _ (t .result) (t .ensures .0) (s .pre .4) (r .result) (r .ensures) _ (c .if1 .left) refl
 
 pub test-from-spec : {M : Type 1} → statement M
 test-from-spec =

@@ -20,6 +20,11 @@ sfits-pos w z b e l = rw e (record { sfits = l })
 pub back : (w : Width) (z : ℤ) (b : ℕ) → z ≡ pos b → b < 2 ^ hbits w → toZ w (ofZ w z) ≡ pos b
 back w z b e l = rw e (toZ-pos w l)
 
+-- how large the negative of a natural number is
+pub mag-minus : (m : ℕ) → mag (negℤ (pos m)) ≤ m
+mag-minus zero = omega arith
+mag-minus (suc m) = omega arith
+
 -- how large a difference is
 mag-negated : (z : ℤ) → mag (negℤ z) ≤ suc (mag z)
 mag-negated (pos zero) = omega arith

@@ -1,6 +1,6 @@
 -- A loop that writes a list t over d, one store a turn: after n turns the first n elements are t's and the rest is d's. Assumes nothing.
 use mathlib.Core.Path.{_≡_, refl, sym, ap, ap₂, _∙_}
-use mathlib.Core.List.{List, [], _∷_, _++_, map, append-nil}
+use mathlib.Core.List.{List, [], _∷_, _++_, append-nil}
 use Prim.Native.Nat.{ℕ, zero, suc, _+_, _-_, _<_, _≤_}
 use native.Mathlib.Numerals.{add-one}
 use native.Mathlib.Omega.{arith}
@@ -23,11 +23,6 @@ module _ {A : Type 0} where
   -- written to the end
   pub written : (n : ℕ) (s t d : List A) → s ≡ take n t ++ drop n d → length t ≤ n → length d ≤ n → s ≡ t
   written n s t d e l m = e ∙ rw (take-all n t l, drop-of-length-le d m) (append-nil t)
-
-pub take-map : {A B : Type 0} (f : A → B) (n : ℕ) (d : List A) → take n (map f d) ≡ map f (take n d)
-take-map f zero d = refl
-take-map f (suc n) [] = refl
-take-map {A} {B} f (suc n) (x ∷ d) = ap (λ (l : List B). f x ∷ l) (take-map f n d)
 
 -- what is stored at a place comes first from there on
 put-here : (l : List ℕ) (i v : ℕ) → i < length l → drop i (set l i v) ≡ v ∷ drop (suc i) l

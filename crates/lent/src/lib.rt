@@ -4,10 +4,7 @@ ghost use mathlib.Core.List.{_++_, map};
 ghost use Prim.Native.Nat.{ℕ, _+_, _<_, _≤_};
 ghost use lib.ListN.{length, replicate, getD, take, drop};
 ghost use lib.IntN.{ℤ, pos, negℤ, natAbs, _+ℤ_};
-ghost use Rattle.lent.specs.Sizes.{width, mostNegated, signedEnd};
-
-// How many numbers `put_negated` takes.
-pub const WIDTH: usize = 16;
+ghost use Rattle.lent.specs.Sizes.{signedEnd};
 
 // All numbers of the slice become v.
 pub fn fill_numbers(s: &mut [i32], v: i32)
@@ -45,20 +42,20 @@ pub fn put_bytes(s: &mut [u8], from: usize, bytes: &[u8])
 
 // The number −m.
 pub fn negated(m: u32) -> i32
-    requires { ⌜ m ≤ mostNegated ⌝ }
+    requires { ⌜ m < signedEnd ⌝ }
     ensures { λ r. ⌜ r ≡ negℤ (pos m) ⌝ }
 {
     0 - (m as i32)
 }
 
-// The first n numbers of the slice become −d[0], −d[1] and so on; what was after them stays.
-pub fn put_negated(s: &mut [i32], n: usize, d: [u32; WIDTH])
-    requires { ⌜ (n ≤ width) × (n ≤ length (now s)) ⌝ }
-    requires { ⌜ ((k : ℕ) → getD d k 0 ≤ mostNegated) ⌝ }
-    ensures { λ _. ⌜ now (s .exit) ≡ map (λ (m : ℕ). negℤ (pos m)) (take n d) ++ drop n (now (s .entry)) ⌝ }
+// The first numbers of the slice become −d[0], −d[1] and so on; what was after them stays.
+pub fn put_negated(s: &mut [i32], d: &[u32])
+    requires { ⌜ length (now d) ≤ length (now s) ⌝ }
+    requires { ⌜ ((k : ℕ) → k < length (now d) → getD (now d) k 0 < signedEnd) ⌝ }
+    ensures { λ _. ⌜ now (s .exit) ≡ map (λ (m : ℕ). negℤ (pos m)) (now (d .entry)) ++ drop (length (now (d .entry))) (now (s .entry)) ⌝ }
 {
     let mut i = 0;
-    while i < n {
+    while i < d.len() {
         s[i] = negated(d[i]);
         i += 1;
     }

@@ -19,6 +19,7 @@ pub use lamps::lamps;
 use meaning::Answer;
 use problem::Checked;
 use problem::Problem;
+use problem::ROW;
 pub use readers::read_reasons;
 pub use readers::read_timetable;
 pub use script::read_script;
@@ -26,10 +27,8 @@ use search::Place;
 use search::Turn;
 pub use slider::slide;
 
-// The largest allowance, and the bytes of a row.
+// The largest allowance.
 const ALLOWANCE: u32 = 1000000;
-
-const ROW: usize = 16;
 
 // What a timetable that is none, and picks and reasons past their ends, are filled with.
 const NO_TIME: i32 = 1;
@@ -73,7 +72,8 @@ fn put_day(p: Problem, picks: [u8; 32], timetable: &mut [i32])
     let f = search::chosen_of(p, picks);
     let t = held::tested(p, f);
     let times = t.times;
-    lent::put_negated(timetable, p.n, times);
+    let n = p.n;
+    lent::put_negated(timetable, &times[..n]);
 }
 
 // The first m picks, in place of the first m bytes.

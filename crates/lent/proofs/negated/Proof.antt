@@ -4,7 +4,7 @@ use native.Mathlib.Omega.{arith}
 use lib.IntN.{pos, negℤ, +ℤ-idl}
 use mir.Syntax.{w32}
 use mir.Facts.{toZ-ofZ, toZ-pos}
-use Rattle.lent.proofs.Signed.{mag-difference}
+use Rattle.lent.proofs.Signed.{mag-minus}
 use borrow.Author.Needs.{needs}
 use Rattle.lent.proofs.negated.Statement.{statement}
 use Rattle.lent.proofs.negated.Tie as tie
@@ -13,7 +13,7 @@ cast-result : tie.Need-cast-result
 cast-result c = search needs
 
 sub-result : tie.Need-sub-result
-sub-result c = rw (toZ-pos w32 {n = c .args .m} (omega arith)) (record { sfits = omega (arith, mag-difference (pos 0) (pos (c .args .m))) })
+sub-result c = rw (toZ-pos w32 {n = c .args .m} (omega arith), +ℤ-idl (negℤ (pos (c .args .m)))) (record { sfits = omega (arith, mag-minus (c .args .m)) })
 
 returns : tie.Need-returns
 returns c = toZ-ofZ (sub-result c) ∙ rw (toZ-pos w32 {n = c .args .m} (omega arith)) (+ℤ-idl (negℤ (pos (c .args .m))))

@@ -3,6 +3,8 @@
 mod rounds;
 mod walk;
 
+use problem::EVENTS;
+use problem::ROW;
 use rounds::ROWS;
 use rounds::put_rounds;
 use rounds::rising;
@@ -18,9 +20,6 @@ ghost use Rattle.facts.specs.Tests.{farthest, places, Within, Tests};
 ghost use Rattle.facts.specs.Rounds.{Under};
 ghost use Rattle.facts.specs.Walk.{TestsFrom};
 
-// The most events, and the bytes of a row.
-pub const EVENTS: usize = 16;
-
 // The places of a buffer of facts: one for each alternative or its opposite, and one for an arc that is tested with them.
 pub const PLACES: usize = 65;
 
@@ -30,7 +29,7 @@ const BLANK: u8 = 255;
 pub struct Tested {
     pub ok: bool,
     pub times: [u32; EVENTS],
-    pub row: [u8; EVENTS],
+    pub row: [u8; ROW],
 }
 
 // The test from times that lie under every timetable of the facts.
@@ -65,7 +64,7 @@ fn test_from(
         Tested {
             ok: true,
             times: before,
-            row: [BLANK; EVENTS],
+            row: [BLANK; ROW],
         }
     }
 }

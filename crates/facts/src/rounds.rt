@@ -1,5 +1,5 @@
 // The rounds of a test: in a round each fact raises the time of its head, going by the times before the round. They end with the first that raises no event.
-use crate::EVENTS;
+use problem::EVENTS;
 ghost use mathlib.Core.Path.{_≡_};
 ghost use Prim.Native.Nat.{ℕ, _+_, _-_, _≤_, max};
 ghost use lib.ListN.{length};

@@ -1,9 +1,10 @@
 // The walk back through the rounds from an event that rose in the last: each fact that raised the event, until one event is met twice.
 use crate::BLANK;
-use crate::EVENTS;
 use crate::rounds::BIAS;
 use crate::rounds::ROWS;
 use crate::rounds::wide;
+use problem::EVENTS;
+use problem::ROW;
 ghost use mathlib.Core.Path.{_≡_};
 ghost use mathlib.Core.List.{[]};
 ghost use Prim.Native.Nat.{ℕ, _+_, _≤_, _<_};
@@ -137,11 +138,11 @@ pub fn repeat(nodes: [u8; ROWS], n: usize) -> Part
 }
 
 // A part of the arcs as a row.
-pub fn row_of(arcs: [u8; EVENTS], first: usize, more: usize) -> [u8; EVENTS]
+pub fn row_of(arcs: [u8; EVENTS], first: usize, more: usize) -> [u8; ROW]
     requires { ⌜ first + more ≤ mostEvents ⌝ }
     ensures { λ r. ⌜ r ≡ padded mostEvents (seg arcs first more) ⌝ }
 {
-    let mut out = [BLANK; EVENTS];
+    let mut out = [BLANK; ROW];
     let mut d = 0;
     while d < more {
         out[d] = arcs[first + d];

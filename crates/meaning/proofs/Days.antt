@@ -1,13 +1,13 @@
--- The days of 01 with all their numbers, as the table is lent them: one table, one claim, which antt computes. Assumes nothing.
+-- The days of 01, as A4 amends them, with all their numbers, as the table is lent them: one table, one claim, which antt computes. Assumes nothing.
 use mathlib.Core.Path.{_≡_, refl}
 use mathlib.Core.List.{List, [], _∷_, _++_, map}
-use Prim.Native.Nat.{ℕ, _+_}
+use Prim.Native.Nat.{ℕ, _+_, _-_, _*_}
 use lib.IntN.{ℤ, pos, negℤ}
 use lib.ListN.{replicate, length}
 use Rattle.meaning.specs.declared.Answer.{Answer}
 use Rattle.meaning.specs.declared.Answer.the-variants.{Plan, None, Unlisted, Stopped, Refused}
 use Rattle.meaning.specs.declared.Verdict.the-variants.{Yes, No}
-use Rattle.meaning.specs.Limits.{blankByte}
+use Rattle.meaning.specs.Limits.{mostEvents, longestDay, rowBytes, blankByte}
 use Rattle.meaning.specs.Problem.{Alternative, opposite, satisfied}
 use Rattle.meaning.specs.Plain.{product}
 use Rattle.meaning.specs.Decision.{ask, raise, round, rounds, least, settled, soundBy, latestOf, reach, sound}
@@ -21,10 +21,10 @@ abbrev pub minus : ℕ → ℤ
 minus n = negℤ (pos n)
 
 -- the alternative x,y,c
-abbrev alt : ℕ → ℕ → ℤ → List ℤ
+abbrev pub alt : ℕ → ℕ → ℤ → List ℤ
 alt x y c = pos x ∷ pos y ∷ c ∷ []
 
-abbrev lent : ℕ → List ℤ → List ℕ → Lent
+abbrev pub lent : ℕ → List ℤ → List ℕ → Lent
 lent n triples counts = record { n = n; triples = triples; counts = counts }
 
 -- lent with an allowance, and room for a timetable of n + 2 times, one pick more than clauses, and so many bytes of reasons
@@ -47,23 +47,18 @@ pub record Day : Type 0 where
   pub input : Input
   pub expected : Seen
 
-abbrev day : Input → Answer → List ℤ → List ℕ → List (List ℕ) → ℕ → ℕ → Day
+abbrev pub day : Input → Answer → List ℤ → List ℕ → List (List ℕ) → ℕ → ℕ → Day
 day i a t p r l k = record { input = i; expected = record { answer = a; times = t; picks = p; rows = r; lamps = l; total = k } }
 
-pub rowSeen : Row → List ℕ
+unfoldable pub rowSeen : Row → List ℕ
 rowSeen (mark b) = b ∷ []
 rowSeen (cycle fs) = map (λ (a : Alternative). a .no) fs
 
 unfoldable pub seen : Input → Seen
 seen i =
-    record {
-      answer = screen i .answer;
-      times = screen i .times;
-      picks = screen i .picks;
-      rows = map rowSeen (screen i .rows);
-      lamps = panel (i .lent) .lit;
-      total = panel (i .lent) .total;
-    }
+    let s = screen i in
+    let l = panel (i .lent) in
+    record { answer = s .answer; times = s .times; picks = s .picks; rows = map rowSeen (s .rows); lamps = l .lit; total = l .total }
 
 abbrev pub d1 : Lent
 d1 = lent 2 (alt 0 1 (minus 30)) (1 ∷ [])
@@ -78,11 +73,15 @@ abbrev pub d8 : Lent
 d8 = lent 2 (alt 0 1 (pos 5) ++ alt 1 0 (minus 5)) (1 ∷ 2 ∷ [])
 
 -- the timetable and the picks where there is no plan
-abbrev ones-of : ℕ → List ℤ
+abbrev pub ones-of : ℕ → List ℤ
 ones-of n = replicate (n + 2) (pos 1)
 
-abbrev blanks-of : ℕ → List ℕ
+abbrev pub blanks-of : ℕ → List ℕ
 blanks-of m = replicate (m + 1) blankByte
+
+-- A4's own numbers: the events, how far times reach, D4's filling bytes and its room for unlisted
+as-A4-has-it : mostEvents ∷ longestDay ∷ (rowBytes - 1) ∷ (rowBytes - 2) ∷ (3 * rowBytes - 1) ∷ [] ≡ 24 ∷ 2300000 ∷ 23 ∷ 22 ∷ 71 ∷ []
+as-A4-has-it = refl
 
 unfoldable pub days : List Day
 days =
@@ -91,8 +90,8 @@ days =
     ∷ day (call d2 4 100000) (Stopped 4 2) (ones-of 4) (blanks-of 3) [] 63 6
     ∷ day (call d2 0 100000) (Stopped 0 0) (ones-of 4) (blanks-of 3) [] 63 6
     ∷ day (usual d4) (None 2 1 3) (ones-of 2) (blanks-of 2) ((240 ∷ []) ∷ (201 ∷ []) ∷ (1 ∷ 0 ∷ []) ∷ []) 0 0
-    ∷ day (call d4 1000 47) (Unlisted 2 1 3) (ones-of 2) (blanks-of 2) [] 0 0
-    ∷ day (call d4 1000 48) (None 2 1 3) (ones-of 2) (blanks-of 2) ((240 ∷ []) ∷ (201 ∷ []) ∷ (1 ∷ 0 ∷ []) ∷ []) 0 0
+    ∷ day (call d4 1000 (3 * rowBytes - 1)) (Unlisted 2 1 3) (ones-of 2) (blanks-of 2) [] 0 0
+    ∷ day (call d4 1000 (3 * rowBytes)) (None 2 1 3) (ones-of 2) (blanks-of 2) ((240 ∷ []) ∷ (201 ∷ []) ∷ (1 ∷ 0 ∷ []) ∷ []) 0 0
     ∷ day (usual (lent 1 (alt 0 0 (minus 1)) (1 ∷ []))) (None 1 1 2) (ones-of 1) (blanks-of 1) ((200 ∷ []) ∷ (0 ∷ []) ∷ []) 0 0
     ∷ day (usual (lent 1 (alt 0 0 (pos 0)) (1 ∷ []))) (Plan 2 0) (pos 0 ∷ pos 1 ∷ pos 1 ∷ []) (0 ∷ 255 ∷ []) [] 1 1
     ∷ day (usual (lent 3 [] [])) (Plan 1 0) (pos 0 ∷ pos 0 ∷ pos 0 ∷ pos 1 ∷ pos 1 ∷ []) (255 ∷ []) [] 0 0
@@ -103,8 +102,8 @@ days =
     ∷ day (usual (lent 2 (alt 0 1 (minus 1) ++ alt 0 1 (minus 1) ++ alt 1 0 (pos 0)) (2 ∷ 3 ∷ []))) (None 2 2 4) (ones-of 2) (blanks-of 2) ((240 ∷ []) ∷ (201 ∷ []) ∷ (2 ∷ 0 ∷ []) ∷ (1 ∷ 64 ∷ []) ∷ []) 4 1
     ∷ day (usual (lent 2 (alt 0 1 (pos 100000)) (1 ∷ []))) (Plan 2 0) (pos 0 ∷ pos 0 ∷ pos 1 ∷ pos 1 ∷ []) (0 ∷ 255 ∷ []) [] 1 1
     ∷ day (usual (lent 2 (alt 0 1 (pos 100001)) (1 ∷ []))) (Refused 6) (ones-of 2) (blanks-of 1) [] 0 0
-    ∷ day (usual (lent 16 [] [])) (Plan 1 0) (replicate 16 (pos 0) ++ pos 1 ∷ pos 1 ∷ []) (255 ∷ []) [] 0 0
-    ∷ day (usual (lent 17 [] [])) (Refused 1) (ones-of 17) (blanks-of 0) [] 0 0
+    ∷ day (usual (lent mostEvents [] [])) (Plan 1 0) (replicate mostEvents (pos 0) ++ pos 1 ∷ pos 1 ∷ []) (255 ∷ []) [] 0 0
+    ∷ day (usual (lent (mostEvents + 1) [] [])) (Refused 1) (ones-of (mostEvents + 1)) (blanks-of 0) [] 0 0
     ∷ []
 
 pub days-hold : map (λ (d : Day). seen (d .input)) days ≡ map (λ (d : Day). d .expected) days
@@ -113,7 +112,7 @@ days-hold = refl
 
 -- D4's three rows, with either cycle, and 4 bytes of room more
 pub d4-list : ℕ → ℕ → List ℕ
-d4-list a b = (240 ∷ replicate 15 255) ++ (201 ∷ replicate 15 255) ++ (a ∷ b ∷ replicate 14 255) ++ replicate 4 255
+d4-list a b = (240 ∷ replicate (rowBytes - 1) 255) ++ (201 ∷ replicate (rowBytes - 1) 255) ++ (a ∷ b ∷ replicate (rowBytes - 2) 255) ++ replicate 4 255
 
 -- "0, 1 (or 1, 0)": both are read yes, and a cycle of one arc is not
 pub d4-read : map (reasonsVerdict d4) (d4-list 0 1 ∷ d4-list 1 0 ∷ d4-list 0 255 ∷ []) ≡ Yes ∷ Yes ∷ No ∷ []

@@ -1,9 +1,10 @@
 -- The sizes and limits of 01, "What the table is given" and "The list of reasons", each under one name. Definitions only.
-use Prim.Native.Nat.{ℕ}
+use Prim.Native.Nat.{ℕ, _*_, _-_}
 use lib.IntN.{ℤ, pos}
 
+-- as A4 has it; what follows from it is said by this name
 abbrev pub mostEvents : ℕ
-mostEvents = 16
+mostEvents = 24
 
 abbrev pub mostClauses : ℕ
 mostClauses = 32
@@ -20,11 +21,11 @@ mostBound = 100000
 abbrev pub mostAllowance : ℕ
 mostAllowance = 1000000
 
--- no time of a latest timetable of alternatives lies further before closing
+-- no time of a latest timetable of alternatives lies further before closing: an arc for each other event
 abbrev pub longestDay : ℕ
-longestDay = 1500000
+longestDay = (mostEvents - 1) * mostBound
 
--- "a row is 16 bytes": as many as there are events at the most
+-- the bytes of a row: as many as there are events at the most
 abbrev pub rowBytes : ℕ
 rowBytes = mostEvents
 

@@ -45,7 +45,7 @@ unfoldable pub filled : List ℕ → Bool
 filled [] = true
 filled (b ∷ bs) = cond (eqb b blankByte) (blank bs) (filled bs)
 
--- "a cycle row holds 1 to 16 numbers, then 255s", each a fact, in a closed walk of sum below 0
+-- "a cycle row holds" 1 number to as many as it has bytes, "then 255s", each a fact, in a closed walk of sum below 0
 unfoldable pub cycleOver : List Alternative → List ℕ → Bool
 cycleOver fs row = filled row && loops fs (numbers row)
 

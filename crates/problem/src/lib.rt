@@ -9,8 +9,8 @@ ghost use Rattle.meaning.specs.Screen.{stepped, events, bounds, isEvent, isBoun
 ghost use Rattle.problem.specs.Reads.{given, Reads};
 ghost use Rattle.problem.specs.Loaded.{placed, Holds, Loadable, noProblem, loaded};
 
-// The limits of 01, "What the table is given".
-pub const EVENTS: u32 = 16;
+// The limits of 01, "What the table is given", with as many events as A4 has.
+pub const EVENTS: usize = 24;
 
 pub const CLAUSES: usize = 32;
 
@@ -19,6 +19,9 @@ pub const IN_CLAUSE: usize = 4;
 pub const ALTERNATIVES: usize = 64;
 
 pub const BOUND: i32 = 100000;
+
+// The bytes of a row of reasons: a cycle has no more arcs than there are events.
+pub const ROW: usize = EVENTS;
 
 // The widths of a problem's arrays: a start past the last clause, and an opposite for each alternative.
 pub const STARTS: usize = CLAUSES + 1;
@@ -134,7 +137,7 @@ fn refusal(n: u32, triples: &[i32], counts: &[u32]) -> u8
     if n < 1 {
         return 1;
     }
-    if EVENTS < n {
+    if EVENTS < n as usize {
         return 1;
     }
     if CLAUSES < counts.len() {

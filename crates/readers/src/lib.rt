@@ -4,6 +4,7 @@ use meaning::Verdict;
 use problem::ALTERNATIVES;
 use problem::BIAS;
 use problem::Problem;
+use problem::ROW;
 ghost use mathlib.Core.Path.{_≡_};
 ghost use mathlib.Core.List.{map};
 ghost use Prim.Native.Nat.{_+_, _*_, _/_, _<_, _≤_};
@@ -20,9 +21,6 @@ ghost use Rattle.problem.specs.Laid.{arcs, clauseOf, clausesFrom, clausesIn, La
 ghost use Rattle.problem.specs.Reads.{given};
 ghost use Rattle.readers.specs.Standing.{factsFrom, Stands};
 ghost use Rattle.readers.specs.Leaves.{isIn, rowAt, kindOf, deadRows, Answers};
-
-// How many bytes a row has.
-const ROW_BYTES: usize = 16;
 
 // What fills a row, and the first byte of a mark row: 240, or 200 + d.
 const BLANK_BYTE: u8 = 255;
@@ -104,11 +102,11 @@ fn blank_from(bytes: &[u8], from: usize) -> bool
 fn row_at(list: &[u8], row: usize) -> &[u8]
     ensures { λ r. ⌜ now r ≡ rowAt (now (list .entry)) row ⌝ }
 {
-    if list.len() / ROW_BYTES <= row {
+    if list.len() / ROW <= row {
         return &list[0..0];
     }
-    let start = row * ROW_BYTES;
-    let end = start + ROW_BYTES;
+    let start = row * ROW;
+    let end = start + ROW;
     &list[start..end]
 }
 
@@ -284,7 +282,7 @@ fn is_reading(p: Problem, list: &[u8]) -> bool
     let a = reading(p, list, m, 0, facts, PLACES, 0);
     match a {
         Next::No => false,
-        Next::Row(r) => blank_from(list, r * ROW_BYTES),
+        Next::Row(r) => blank_from(list, r * ROW),
     }
 }
 

@@ -1,9 +1,11 @@
 -- Worked texts with their answers, which antt computes: one table, one claim. Assumes nothing.
 use mathlib.Core.Path.{_≡_, refl}
 use mathlib.Core.List.{List, [], _∷_, _++_, map}
-use Prim.Native.Nat.{ℕ, zero, suc}
+use Prim.Native.Nat.{ℕ, zero, suc, _+_}
 use Prim.Native.String.{String}
 use lib.IntN.{pos, negℤ}
+use lib.ListN.{length}
+use Rattle.meaning.specs.Limits.{mostEvents}
 use Rattle.dialogue.specs.Words.{areDigits, valueFrom, digitsFrom, unsignedOf}
 use Rattle.grammar.specs.Grammar.{roleNo, bytes, among, isA, spelled, blank, gap, parting, opening, closingAs, symbolAs, numeralAs, bound, difference, atom, optional, held, declared, command, setLogic, checkSat, script}
 use Rattle.grammar.specs.Place.{ends, live, follow, isNone, choose, after, roleOf, placeFrom}
@@ -50,15 +52,37 @@ worked :
 unfolding after-both begun answerTo bytes among isA roleNo spelled blank gap parting opening closingAs symbolAs numeralAs bound difference atom optional held declared command setLogic checkSat script ends live follow isNone choose after roleOf placeFrom joinTo pieces sameWord keptWords oneOf eventOf isNew areDigits valueFrom digitsFrom unsignedOf withNew withEvent withBound withName withClause withCheck readPiece readAll settled answerAt
 worked = refl
 
--- another logic; no event; 17 declarations; 33 asserts; 68 alternatives, and 33 asserts with 132, where 2 comes first
+-- another logic; no event; 33 asserts; 68 alternatives, and 33 asserts with 132, where 2 comes first
 sizes :
     map answerTo (
     bytes "(set-logic QF_LIA)"
     ∷ bytes "(set-logic QF_IDL)(assert false)(check-sat)"
-    ∷ (bytes "(set-logic QF_IDL)" ++ bytes "(declare-const a Int)(declare-const b Int)(declare-const c Int)(declare-const d Int)(declare-const e Int)(declare-const f Int)(declare-const g Int)(declare-const h Int)(declare-const i Int)(declare-const j Int)(declare-const k Int)(declare-const l Int)(declare-const m Int)(declare-const n Int)(declare-const o Int)(declare-const p Int)(declare-const q Int)")
     ∷ (begun ++ copies 33 "(assert false)")
     ∷ (begun ++ copies 17 "(assert(or(<=(- x y)0)(<=(- x y)0)(<=(- x y)0)(<=(- x y)0)))")
     ∷ (begun ++ (copies 16 "(assert(or(<=(- x y)0)(<=(- x y)0)(<=(- x y)0)(<=(- x y)0)))" ++ (copies 16 "(assert false)" ++ bytes "(assert(<=(- x y)0))"))) ∷ [])
-    ≡ refused 20 14 ∷ refused 1 0 ∷ refused 1 0 ∷ refused 2 0 ∷ refused 3 0 ∷ refused 2 0 ∷ []
+    ≡ refused 20 14 ∷ refused 1 0 ∷ refused 2 0 ∷ refused 3 0 ∷ refused 2 0 ∷ []
 unfolding copies begun answerTo bytes among isA roleNo spelled blank gap parting opening closingAs symbolAs numeralAs bound difference atom optional held declared command setLogic checkSat script ends live follow isNone choose after roleOf placeFrom joinTo pieces sameWord keptWords oneOf eventOf isNew areDigits valueFrom digitsFrom unsignedOf withNew withEvent withBound withName withClause withCheck readPiece readAll settled answerAt
 sizes = refl
+
+-- so many names of one letter, from a letter on, and their declarations
+letters : ℕ → ℕ → List (List ℕ)
+letters a zero = []
+letters a (suc k) = (a ∷ []) ∷ letters (suc a) k
+
+declarations : List (List ℕ) → List ℕ
+declarations [] = []
+declarations (name ∷ more) = bytes "(declare-const " ++ (name ++ (bytes " Int)" ++ declarations more))
+
+-- a text up to so many declarations, of a, b, c and so on; and one with a declaration more than there may be, up to its last parenthesis
+upTo : ℕ → List ℕ
+upTo k = bytes "(set-logic QF_IDL)" ++ declarations (letters 97 k)
+
+almost : List ℕ
+almost = upTo mostEvents ++ bytes "(declare-const z Int"
+
+-- as many declarations as there may be events are read; one more is refused with 1 at its end, and no sooner
+declared-events :
+    map answerTo ((upTo mostEvents ++ bytes "(check-sat)") ∷ upTo (mostEvents + 1) ∷ almost ∷ [])
+    ≡ going (record { names = letters 97 mostEvents; new = (96 + mostEvents) ∷ []; x = 0; y = 0; triples = []; counts = [] }) ∷ refused 1 0 ∷ refused 20 (length almost) ∷ []
+unfolding letters declarations upTo almost answerTo bytes among isA roleNo spelled blank gap parting opening closingAs symbolAs numeralAs bound difference atom optional held declared command setLogic checkSat script ends live follow isNone choose after roleOf placeFrom joinTo pieces sameWord keptWords oneOf eventOf isNew areDigits valueFrom digitsFrom unsignedOf withNew withEvent withBound withName withClause withCheck readPiece readAll settled answerAt
+declared-events = refl

@@ -4,9 +4,7 @@ ghost use Prim.Native.Nat.{_<_};
 ghost use Rattle.meaning.specs.Limits.{mostEvents};
 ghost use Rattle.script.specs.Words.{isKept, isNew};
 ghost use Rattle.script.specs.Notes.{namesOf, Within, Finds, Gains};
-
-// As many as 01 allows events.
-pub const EVENTS: usize = problem::EVENTS as usize;
+use problem::EVENTS;
 
 // The most characters of a name.
 const CHARACTERS: usize = 32;

@@ -6,7 +6,6 @@ ghost use Rattle.script.specs.Reading.{refused};
 ghost use Rattle.script.specs.Script.{told, scriptAt};
 ghost use Rattle.script.specs.Notes.{Blank, Says};
 use super::Script;
-use super::names::EVENTS;
 use super::names::Names;
 use super::reading::Notes;
 use super::reading::read_piece;
@@ -17,6 +16,7 @@ use grammar::may_end;
 use grammar::piece_at;
 use grammar::table;
 use problem::CLAUSES;
+use problem::EVENTS;
 
 // A refusal, with nothing read.
 fn refusal(number: u8, place: usize) -> Script

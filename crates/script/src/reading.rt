@@ -6,7 +6,6 @@ ghost use Rattle.meaning.specs.Limits.{mostBound};
 ghost use Rattle.dialogue.specs.Words.{unsignedOf};
 ghost use Rattle.script.specs.Reading.{signed, withNew, withEvent, withBound, withName, withClause, withCheck};
 ghost use Rattle.script.specs.Notes.{noted, Ready, Took, Makes, Reads};
-use super::names::EVENTS;
 use super::names::Names;
 use super::names::event_of;
 use super::names::is_new;
@@ -18,6 +17,7 @@ use dialogue::Number;
 use dialogue::unsigned_of;
 use problem::ALTERNATIVES;
 use problem::CLAUSES;
+use problem::EVENTS;
 
 // The largest bound.
 const BOUND: u32 = problem::BOUND as u32;

@@ -1,6 +1,7 @@
 // Rows of the list of reasons, written to lent memory as long as they fit.
 use held::Facts;
 use problem::Problem;
+use problem::ROW;
 ghost use mathlib.Core.Path.{_≡_};
 ghost use mathlib.Core.Bool.{true};
 ghost use mathlib.Core.List.{_∷_, map};
@@ -14,22 +15,20 @@ ghost use Rattle.held.specs.Held.{factsIn, Ready};
 ghost use Rattle.search.specs.Listing.{putRow, Keeps};
 ghost use Rattle.search.specs.Steps.{mostRows};
 
-// The bytes of a row, and what fills it.
-const ROW: usize = 16;
-
+// What fills a row.
 const BLANK: u8 = 255;
 
 // A mark row.
-pub fn mark_row(first: u8) -> [u8; 16]
+pub fn mark_row(first: u8) -> [u8; ROW]
     ensures { λ r. ⌜ r ≡ markRow rowBytes first ⌝ }
 {
-    let mut row = [BLANK; 16];
+    let mut row = [BLANK; ROW];
     row[0] = first;
     row
 }
 
 // Row number `rows` of the list, where there is room for it.
-pub fn put_row(reasons: &mut [u8], rows: usize, row: [u8; 16])
+pub fn put_row(reasons: &mut [u8], rows: usize, row: [u8; ROW])
     requires { ⌜ rows ≤ mostRows ⌝ }
     ensures { λ _. ⌜ now (reasons .exit) ≡ putRow (now (reasons .entry)) rows row ⌝ }
 {

@@ -11,12 +11,10 @@ use libc::STDOUT_FILENO;
 use meaning::Answer;
 use meaning::Verdict;
 use problem::CLAUSES;
+use problem::EVENTS;
 
 // The most bytes that are read.
 const BYTES: usize = 65536;
-
-// A time for each event.
-const EVENTS: usize = problem::EVENTS as usize;
 
 // The allowance of visits.
 const ALLOWANCE: u32 = 1000000;

@@ -54,7 +54,7 @@ is-cycle-requires : tie.Need-is-cycle-requires
 is-cycle-requires c κs = let a = c .before .before .before .before .before .before .before .before in
     let r = c .before .before .before .before .before in
     let n = numbers-few (r .before .row-at .result .now) in
-    let s : length (r .before .row-at .result .now) ≤ 16 = rw (r .before .row-at .ensures) (row-most rowBytes (a .args .list .now) (a .args .row)) in (
+    let s : length (r .before .row-at .result .now) ≤ rowBytes = rw (r .before .row-at .ensures) (row-most rowBytes (a .args .list .now) (a .args .row)) in (
       subst (λ (l : List ℕ). Known (arcs (a .args .p)) (a .args .p .n) l) (sym (all (a .args .from) (a .args .t2) (search needs))) (a .pre .0),
       rw (length-take-le (r .row-len .result) (r .before .row-at .result .now) (omega (arith, r .row-len .ensures))) (omega (arith, r .row-len .ensures)),
     )

@@ -37,7 +37,7 @@ part-result-end-2 c = search needs
 
 returns-2 : tie.Need-returns-2
 returns-2 c = let a = c .before .before in
-    let e : a .args .row * 16 + 16 - a .args .row * 16 ≡ 16 = omega arith in
+    let e : a .args .row * rowBytes + rowBytes - a .args .row * rowBytes ≡ rowBytes = omega arith in
     rw e (sym (row-is rowBytes _ _ (c .before .if1 .left)))
 
 pub row-at-spec : {M : Type 1} → statement M

@@ -1,17 +1,33 @@
-// Prints the worked days of 01, one to a line: the answer, and the lent timetable, picks and reasons as they are left. All of that is filled
-// with 7s before each call, so that what was not settled would show.
+// Prints the worked days of 01, as A4 amends them, one to a line: the answer, and the lent timetable, picks and reasons as they are left. All of
+// that is filled with 7s before each call, so that what was not settled would show.
+ghost use mathlib.Core.Path.{_≡_};
+ghost use Prim.Native.Nat.{_*_, _≤_};
+ghost use lib.ListN.{length};
+ghost use Rattle.meaning.specs.Limits.{mostEvents};
+use problem::EVENTS;
+use problem::ROW;
 
 // How many elements are lent: the timetable, the picks, the reasons, and the reasons of D4's second half.
 const TIMES: usize = 6;
 
 const PICKS: usize = 4;
 
-const ROOM: usize = 64;
+const ROOM: usize = 4 * ROW;
 
-const TIGHT: usize = 47;
+const TIGHT: usize = 3 * ROW - 1;
+
+// What is lent for as many events as there may be: a time more than events, a pick more than the ring has arcs, and a row more than it gives.
+const MANY_TIMES: usize = EVENTS + 1;
+
+const MANY_PICKS: usize = EVENTS + 1;
+
+const MANY_ROWS: usize = (EVENTS + 2) * ROW;
+
+// The numbers of an arc for each of so many events.
+const NUMBERS: usize = 3 * EVENTS;
 
 // A reply at its longest.
-const REPLY: usize = 1024;
+const REPLY: usize = 4096;
 
 // Plans a day over what is lent, and shows it.
 fn show_over(
@@ -20,22 +36,14 @@ fn show_over(
     triples: &[i32],
     counts: &[u32],
     allowance: u32,
+    times: &mut [i32],
+    picks: &mut [u8],
     reasons: &mut [u8],
 ) {
-    let mut times = [7i32; TIMES];
-    let mut picks = [7u8; PICKS];
-    let answer = planner::plan(
-        n,
-        triples,
-        counts,
-        allowance,
-        &mut times[..],
-        &mut picks[..],
-        reasons,
-    );
+    let answer = planner::plan(n, triples, counts, allowance, times, picks, reasons);
     let mut reply = [0u8; REPLY];
     let said = exchange::put_answer(&mut reply[..], answer);
-    let end = exchange::put_lent(&mut reply[..], said, &times[..], &picks[..], reasons);
+    let end = exchange::put_lent(&mut reply[..], said, times, picks, reasons);
     io::write_all(1, name);
     io::write_all(1, b": ");
     write_front(&reply[..], end);
@@ -49,16 +57,56 @@ fn write_front(text: &[u8], bytes: usize) {
     }
 }
 
+// A day with an allowance and room for reasons.
+fn show_with(
+    name: &[u8],
+    n: u32,
+    triples: &[i32],
+    counts: &[u32],
+    allowance: u32,
+    reasons: &mut [u8],
+) {
+    let mut times = [7i32; TIMES];
+    let mut picks = [7u8; PICKS];
+    show_over(
+        name,
+        n,
+        triples,
+        counts,
+        allowance,
+        &mut times[..],
+        &mut picks[..],
+        reasons,
+    );
+}
+
 // A day with an allowance.
 fn show_in(name: &[u8], n: u32, triples: &[i32], counts: &[u32], allowance: u32) {
     let mut reasons = [7u8; ROOM];
-    show_over(name, n, triples, counts, allowance, &mut reasons[..]);
+    show_with(name, n, triples, counts, allowance, &mut reasons[..]);
 }
 
-// A day with room for no more than two rows and 15 bytes.
+// A day with room for a byte less than three rows.
 fn show_tight(name: &[u8], n: u32, triples: &[i32], counts: &[u32]) {
     let mut reasons = [7u8; TIGHT];
-    show_over(name, n, triples, counts, 1000, &mut reasons[..]);
+    show_with(name, n, triples, counts, 1000, &mut reasons[..]);
+}
+
+// A day of as many events as there may be.
+fn show_many(name: &[u8], triples: &[i32], counts: &[u32]) {
+    let mut times = [7i32; MANY_TIMES];
+    let mut picks = [7u8; MANY_PICKS];
+    let mut reasons = [7u8; MANY_ROWS];
+    show_over(
+        name,
+        EVENTS as u32,
+        triples,
+        counts,
+        1000,
+        &mut times[..],
+        &mut picks[..],
+        &mut reasons[..],
+    );
 }
 
 // A day with the allowance of 01's days.
@@ -79,7 +127,7 @@ fn first_days() {
     let d4 = [0, 1, -1, 1, 0, -1];
     let two = [1u32, 2];
     show(b"D4", 2, &d4[..], &two[..]);
-    show_tight(b"D4, room of 47", 2, &d4[..], &two[..]);
+    show_tight(b"D4, a byte short of three rows", 2, &d4[..], &two[..]);
 }
 
 // D5 to D8.
@@ -112,11 +160,47 @@ fn last_days() {
     show(b"Bound 100,000", 2, &taken[..], &one[..]);
     let refused = [0, 1, 100001];
     show(b"Bound 100,001", 2, &refused[..], &one[..]);
-    show(b"17 events", 17, &taken[..], &one[..]);
+    show(
+        b"An event too many",
+        EVENTS as u32 + 1,
+        &taken[..],
+        &one[..],
+    );
+}
+
+// Each event at most c minutes after the next, in a clause of its own, as many as there are clauses.
+fn put_ahead(triples: &mut [i32], counts: &mut [u32], c: i32)
+    requires { ⌜ (length (now triples) ≡ 3 * length (now counts)) × (length (now counts) ≤ mostEvents) ⌝ }
+{
+    let mut e = 0;
+    while e < counts.len() {
+        triples[3 * e] = e as i32;
+        triples[3 * e + 1] = (e + 1) as i32;
+        triples[3 * e + 2] = c;
+        counts[e] = e as u32 + 1;
+        e += 1;
+    }
+}
+
+// As many events as there may be: without a clause; in a chain, each 100,000 minutes before the next; in a ring, none after the next, and the
+// last a minute before the first.
+fn widest_days() {
+    let mut chain = [0i32; NUMBERS - 3];
+    let mut links = [0u32; EVENTS - 1];
+    show_many(b"As many events as there may be", &chain[..0], &links[..0]);
+    put_ahead(&mut chain[..], &mut links[..], -100000);
+    show_many(b"A chain of them", &chain[..], &links[..]);
+    let mut ring = [0i32; NUMBERS];
+    let mut arcs = [0u32; EVENTS];
+    put_ahead(&mut ring[..], &mut arcs[..], 0);
+    ring[NUMBERS - 2] = 0;
+    ring[NUMBERS - 1] = -1;
+    show_many(b"A ring of them", &ring[..], &arcs[..]);
 }
 
 fn main() {
     first_days();
     middle_days();
     last_days();
+    widest_days();
 }

@@ -1,5 +1,12 @@
 // Prints what the two readers say of the worked days' lists and timetables, and of lists and timetables that are wrong in one place, one to a line.
 use meaning::Verdict;
+use problem::EVENTS;
+use problem::ROW;
+
+// The bytes of D4's rows, and 4 more.
+const THREE_ROWS: usize = 3 * ROW;
+
+const ROOM: usize = THREE_ROWS + 4;
 
 // Writes what was read and what was said of it.
 fn show(asked: &[u8], said: Verdict) {
@@ -30,12 +37,12 @@ fn show_pair(asked: &[u8], c: i32, d: i32, list: &[u8]) {
 }
 
 // D4's rows with the cycle a, b, and 4 bytes of room more.
-fn rows_of(a: u8, b: u8) -> [u8; 52] {
-    let mut list = [255u8; 52];
+fn rows_of(a: u8, b: u8) -> [u8; ROOM] {
+    let mut list = [255u8; ROOM];
     list[0] = 240;
-    list[16] = 201;
-    list[32] = a;
-    list[33] = b;
+    list[ROW] = 201;
+    list[2 * ROW] = a;
+    list[2 * ROW + 1] = b;
     list
 }
 
@@ -43,8 +50,8 @@ fn rows_of(a: u8, b: u8) -> [u8; 52] {
 fn show_pairs() {
     let good = rows_of(1, 0);
     show_pair(b"D4", -1, -1, &good[..]);
-    show_pair(b"D4, its rows and no more", -1, -1, &good[0..48]);
-    show_pair(b"D4, a byte short", -1, -1, &good[0..47]);
+    show_pair(b"D4, its rows and no more", -1, -1, &good[0..THREE_ROWS]);
+    show_pair(b"D4, a byte short", -1, -1, &good[0..THREE_ROWS - 1]);
     show_pair(b"D4, no list", -1, -1, &good[0..0]);
     show_pair(b"D8, a cycle of sum 0", 5, -5, &good[..]);
     show_pair(b"D8 with -6", 5, -6, &good[..]);
@@ -55,7 +62,7 @@ fn show_pairs() {
     let foreign = rows_of(0, 65);
     show_pair(b"D4, an opposite that is no fact", -1, -1, &foreign[..]);
     let mut late = rows_of(1, 0);
-    late[51] = 254;
+    late[ROOM - 1] = 254;
     show_pair(
         b"D4, another byte than 255 after the reading",
         -1,
@@ -63,10 +70,10 @@ fn show_pairs() {
         &late[..],
     );
     let mut filled = rows_of(1, 0);
-    filled[47] = 0;
+    filled[THREE_ROWS - 1] = 0;
     show_pair(b"D4, a number after a row's 255s", -1, -1, &filled[..]);
     let mut chosen = rows_of(1, 0);
-    chosen[16] = 200;
+    chosen[ROW] = 200;
     show_pair(
         b"D4, 200 + d for the clause that is chosen",
         -1,
@@ -74,7 +81,7 @@ fn show_pairs() {
         &chosen[..],
     );
     let mut past = rows_of(1, 0);
-    past[16] = 202;
+    past[ROW] = 202;
     show_pair(
         b"D4, 200 + d for a clause that is not there",
         -1,
@@ -87,9 +94,9 @@ fn show_pairs() {
 fn show_single() {
     let loops = [0, 0, -1];
     let one = [1u32];
-    let mut list = [255u8; 32];
+    let mut list = [255u8; 2 * ROW];
     list[0] = 200;
-    list[16] = 0;
+    list[ROW] = 0;
     show(
         b"D5",
         readers::read_reasons(1, &loops[..], &one[..], &list[..]),
@@ -99,13 +106,13 @@ fn show_single() {
         b"D5, onward",
         readers::read_reasons(1, &loops[..], &one[..], &list[..]),
     );
-    list[16] = 240;
+    list[ROW] = 240;
     show(
         b"D5, onward where no clause is left",
         readers::read_reasons(1, &loops[..], &one[..], &list[..]),
     );
     let empty = [0u32];
-    let mut mark = [255u8; 20];
+    let mut mark = [255u8; ROW + 4];
     mark[0] = 200;
     show(
         b"D7",
@@ -121,8 +128,8 @@ fn show_single() {
         readers::read_reasons(3, &loops[..0], &empty[..0], &mark[..]),
     );
     show(
-        b"D10, 17 events",
-        readers::read_reasons(17, &loops[..0], &empty[..0], &mark[..]),
+        b"D10, an event too many",
+        readers::read_reasons(EVENTS as u32 + 1, &loops[..0], &empty[..0], &mark[..]),
     );
 }
 
@@ -130,25 +137,25 @@ fn show_single() {
 fn show_opposite() {
     let triples = [0, 1, -1, 0, 1, -1, 1, 0, 0];
     let counts = [2u32, 3];
-    let mut list = [255u8; 64];
+    let mut list = [255u8; 4 * ROW];
     list[0] = 240;
-    list[16] = 201;
-    list[32] = 2;
-    list[33] = 0;
-    list[48] = 1;
-    list[49] = 64;
+    list[ROW] = 201;
+    list[2 * ROW] = 2;
+    list[2 * ROW + 1] = 0;
+    list[THREE_ROWS] = 1;
+    list[THREE_ROWS + 1] = 64;
     show(
         b"an opposite as a fact",
         readers::read_reasons(2, &triples[..], &counts[..], &list[..]),
     );
-    list[49] = 0;
+    list[THREE_ROWS + 1] = 0;
     show(
         b"an alternative as a fact where it was passed over",
         readers::read_reasons(2, &triples[..], &counts[..], &list[..]),
     );
-    list[32] = 1;
-    list[33] = 64;
-    list[49] = 64;
+    list[2 * ROW] = 1;
+    list[2 * ROW + 1] = 64;
+    list[THREE_ROWS + 1] = 64;
     show(
         b"an opposite as a fact where its alternative was chosen",
         readers::read_reasons(2, &triples[..], &counts[..], &list[..]),
@@ -182,8 +189,8 @@ fn show_timetables() {
         readers::read_timetable(2, &triples[..], &counts[..], &times[..]),
     );
     show(
-        b"17 events, one time",
-        readers::read_timetable(17, &triples[..], &counts[..], &times[..]),
+        b"An event too many, one time",
+        readers::read_timetable(EVENTS as u32 + 1, &triples[..], &counts[..], &times[..]),
     );
 }
 

@@ -2,7 +2,7 @@
 use mathlib.Core.Path.{_≡_}
 use Prim.Native.Nat.{ℕ, zero, suc, _+_, _<_, _≤_, _^_}
 use native.Mathlib.Omega.{arith}
-use lib.IntN.{ℤ, pos, negsuc, negℤ, _+ℤ_, _-ℤ_, subℕ}
+use lib.IntN.{ℤ, pos, negsuc, negℤ, _+ℤ_, _-ℤ_, subℕ, +ℤ-idl}
 use lib.Signed.{mag}
 use mir.Syntax.{Width, w32, w64}
 use mir.Val.{SFits, hbits, ofZ, toZ}
@@ -20,10 +20,13 @@ sfits-pos w z b e l = rw e (record { sfits = l })
 pub back : (w : Width) (z : ℤ) (b : ℕ) → z ≡ pos b → b < 2 ^ hbits w → toZ w (ofZ w z) ≡ pos b
 back w z b e l = rw e (toZ-pos w l)
 
--- how large the negative of a natural number is
-pub mag-minus : (m : ℕ) → mag (negℤ (pos m)) ≤ m
-mag-minus zero = omega arith
-mag-minus (suc m) = omega arith
+-- how large a natural number is when it is taken from 0
+pub mag-minus : (m : ℕ) → mag (pos 0 -ℤ pos m) ≤ m
+mag-minus m = rw (+ℤ-idl (negℤ (pos m))) (go m)
+  where
+    go : (m : ℕ) → mag (negℤ (pos m)) ≤ m
+    go zero = omega arith
+    go (suc m) = omega arith
 
 -- how large a difference is
 mag-negated : (z : ℤ) → mag (negℤ z) ≤ suc (mag z)

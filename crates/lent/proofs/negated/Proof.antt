@@ -13,7 +13,7 @@ cast-result : tie.Need-cast-result
 cast-result c = search needs
 
 sub-result : tie.Need-sub-result
-sub-result c = rw (toZ-pos w32 {n = c .args .m} (omega arith), +ℤ-idl (negℤ (pos (c .args .m)))) (record { sfits = omega (arith, mag-minus (c .args .m)) })
+sub-result c = rw (toZ-pos w32 {n = c .args .m} (omega arith)) (record { sfits = omega (arith, mag-minus (c .args .m)) })
 
 returns : tie.Need-returns
 returns c = toZ-ofZ (sub-result c) ∙ rw (toZ-pos w32 {n = c .args .m} (omega arith)) (+ℤ-idl (negℤ (pos (c .args .m))))

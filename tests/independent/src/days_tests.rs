@@ -5,31 +5,41 @@ use crate::answer::{answer, Answer, Reply};
 use crate::dialogue::{request, Request};
 use crate::facts::Distances;
 use crate::plain;
-use crate::problem::{Problem, Refusal};
+use crate::problem::{Problem, Refusal, FARTHEST_TIME};
 use crate::random::Random;
-use crate::reasons;
+use crate::reasons::{self, ROW};
 use crate::requests::Maker;
 use crate::search::{search, Ending};
 use crate::serve::reply;
 use crate::slider::{slide, Kind, Use};
 
 /// `count` times 255, each after a space but the first.
-fn fill(count: usize) -> String {
+pub fn fill(count: usize) -> String {
     vec!["255"; count].join(" ")
 }
 
 /// A row: these bytes, then 255s.
 fn row(front: &str) -> String {
     let used = front.split(' ').count();
-    if used == 16 {
+    if used == ROW {
         front.to_string()
     } else {
-        format!("{front} {}", fill(16 - used))
+        format!("{front} {}", fill(ROW - used))
     }
 }
 
+/// The rows with these bytes in front, one after the other.
+fn rows(fronts: &[&str]) -> String {
+    fronts.iter().map(|front| row(front)).collect::<Vec<String>>().join(" ")
+}
+
+/// A list of these rows, as the dialogue hands it over: its length, then its bytes.
+pub fn list(fronts: &[&str]) -> String {
+    format!("{} {}", fronts.len() * ROW, rows(fronts))
+}
+
 #[track_caller]
-fn says(line: &str, expected: &str) {
+pub fn says(line: &str, expected: &str) {
     assert_eq!(reply(line.as_bytes()), expected, "{line}");
 }
 
@@ -43,7 +53,7 @@ const DAY_2: &str = "18 2 1 6 0 3 4 2 0 1 3 0 -5 0 2 -2 1 2 -7 3 2 4 6";
 
 #[test]
 fn day_2() {
-    says(&format!("plan 4 1000 4 3 16 {DAY_2}"), &format!("plan 5 2 | -2 0 0 -7 | 0 1 0 | {}", fill(16)));
+    says(&format!("plan 4 1000 4 3 {ROW} {DAY_2}"), &format!("plan 5 2 | -2 0 0 -7 | 0 1 0 | {}", fill(ROW)));
     says(&format!("lamps 4 {DAY_2}"), &format!("lamps 0 63 6 0 2 2 2{}", " 0".repeat(29)));
     says(&format!("times 4 {DAY_2} 4 -2 0 0 -7"), "yes");
     says(&format!("times 4 {DAY_2} 4 -1 0 0 -7"), "no");
@@ -51,63 +61,65 @@ fn day_2() {
 
 #[test]
 fn day_3() {
-    says(&format!("plan 4 4 4 3 16 {DAY_2}"), &format!("stopped 4 2 | 1 1 1 1 | 255 255 255 | {}", fill(16)));
+    says(&format!("plan 4 4 4 3 {ROW} {DAY_2}"), &format!("stopped 4 2 | 1 1 1 1 | 255 255 255 | {}", fill(ROW)));
     says(&format!("plan 4 0 4 3 0 {DAY_2}"), "stopped 0 0 | 1 1 1 1 | 255 255 255 | ");
 }
 
 const DAY_4: &str = "6 0 1 -1 1 0 -1 2 1 2";
 
+/// With the row sizes of A4 in 02.
 #[test]
 fn day_4() {
-    let rows = [row("240"), row("201"), row("1 0")].join(" ");
-    let turned = [row("240"), row("201"), row("0 1")].join(" ");
-    let got = reply(format!("plan 2 1000 2 2 48 {DAY_4}").as_bytes());
+    let marks = format!("240 {} 201 {}", fill(23), fill(23));
+    let [rows, turned] = ["1 0", "0 1"].map(|cycle| format!("{marks} {cycle} {}", fill(22)));
+    let got = reply(format!("plan 2 1000 2 2 72 {DAY_4}").as_bytes());
     let expected = [&rows, &turned].map(|rows| format!("none 2 1 3 | 1 1 | 255 255 | {rows}"));
     assert!(expected.contains(&got), "{got}");
-    says(&format!("plan 2 1000 2 2 47 {DAY_4}"), &format!("unlisted 2 1 3 | 1 1 | 255 255 | {}", fill(47)));
+    says(&format!("plan 2 1000 2 2 71 {DAY_4}"), &format!("unlisted 2 1 3 | 1 1 | 255 255 | {}", fill(71)));
     says(&format!("plan 2 2 2 2 0 {DAY_4}"), "unlisted 2 1 3 | 1 1 | 255 255 | ");
     says(&format!("lamps 2 {DAY_4}"), &format!("lamps 0 0 0 64{}", " 0".repeat(32)));
-    says(&format!("reasons 2 {DAY_4} 48 {rows}"), "yes");
-    says(&format!("reasons 2 {DAY_4} 48 {turned}"), "yes");
-    says(&format!("reasons 2 {DAY_4} 49 {turned} 255"), "yes");
-    says(&format!("reasons 2 {DAY_4} 49 {turned} 254"), "no");
-    says(&format!("reasons 2 {DAY_4} 32 {} {}", row("240"), row("201")), "no");
-    says(&format!("reasons 2 {DAY_4} 48 {} {} {}", row("240"), row("240"), row("0 1")), "yes");
-    says(&format!("reasons 2 {DAY_4} 48 {} {} {}", row("240"), row("200"), row("0 1")), "no");
-    says(&format!("reasons 2 {DAY_4} 48 {} {} {}", row("240"), row("201"), row("0 1 0 1")), "yes");
-    says(&format!("reasons 2 {DAY_4} 48 {} {} {}", row("240"), row("201"), row("0 64")), "no");
+    says(&format!("reasons 2 {DAY_4} 72 {rows}"), "yes");
+    says(&format!("reasons 2 {DAY_4} 72 {turned}"), "yes");
+    says(&format!("reasons 2 {DAY_4} 73 {turned} 255"), "yes");
+    says(&format!("reasons 2 {DAY_4} 73 {turned} 254"), "no");
+    says(&format!("reasons 2 {DAY_4} 48 {marks}"), "no");
+    says(&format!("reasons 2 {DAY_4} {}", list(&["240", "240", "0 1"])), "yes");
+    says(&format!("reasons 2 {DAY_4} {}", list(&["240", "200", "0 1"])), "no");
+    says(&format!("reasons 2 {DAY_4} {}", list(&["240", "201", "0 1 0 1"])), "yes");
+    says(&format!("reasons 2 {DAY_4} {}", list(&["240", "201", "0 64"])), "no");
 }
 
 #[test]
 fn day_5() {
-    let rows = [row("200"), row("0")].join(" ");
-    says("plan 1 1000 1 1 32 3 0 0 -1 1 1", &format!("none 1 1 2 | 1 | 255 | {rows}"));
-    says("plan 1 1000 1 1 32 3 0 0 0 1 1", &format!("plan 2 0 | 0 | 0 | {}", fill(32)));
+    let room = 2 * ROW;
+    let rows = rows(&["200", "0"]);
+    says(&format!("plan 1 1000 1 1 {room} 3 0 0 -1 1 1"), &format!("none 1 1 2 | 1 | 255 | {rows}"));
+    says(&format!("plan 1 1000 1 1 {room} 3 0 0 0 1 1"), &format!("plan 2 0 | 0 | 0 | {}", fill(room)));
 }
 
 #[test]
 fn day_6() {
     says("plan 3 1000 3 0 1 0 0", "plan 1 0 | 0 0 0 |  | 255");
     says("reasons 3 0 0 0", "no");
-    says(&format!("reasons 3 0 0 16 {}", row("240")), "no");
+    says(&format!("reasons 3 0 0 {}", list(&["240"])), "no");
 }
 
 #[test]
 fn day_7() {
-    says("plan 1 1000 1 1 16 0 1 0", &format!("none 1 0 1 | 1 | 255 | {}", row("200")));
+    says(&format!("plan 1 1000 1 1 {ROW} 0 1 0"), &format!("none 1 0 1 | 1 | 255 | {}", row("200")));
     says("plan 1 0 1 1 0 0 1 0", "stopped 0 0 | 1 | 255 | ");
-    says(&format!("reasons 1 0 1 0 16 {}", row("200")), "yes");
-    says(&format!("reasons 1 0 1 0 16 {}", row("240")), "yes");
-    says(&format!("reasons 1 0 1 0 16 {}", row("201")), "no");
+    says(&format!("reasons 1 0 1 0 {}", list(&["200"])), "yes");
+    says(&format!("reasons 1 0 1 0 {}", list(&["240"])), "yes");
+    says(&format!("reasons 1 0 1 0 {}", list(&["201"])), "no");
 }
 
 #[test]
 fn day_8() {
     says("plan 2 1000 2 2 0 6 0 1 5 1 0 -5 2 1 2", "plan 3 0 | 0 -5 | 0 0 | ");
     says("plan 2 1000 2 2 0 6 0 1 5 1 0 -6 2 1 2", "unlisted 2 1 3 | 1 1 | 255 255 | ");
-    let rows = [row("240"), row("201"), row("0 1")].join(" ");
-    says(&format!("reasons 2 6 0 1 5 1 0 -5 2 1 2 48 {rows}"), "no");
-    says(&format!("reasons 2 6 0 1 5 1 0 -6 2 1 2 48 {rows}"), "yes");
+    let list = list(&["240", "201", "0 1"]);
+    says(&format!("reasons 2 6 0 1 5 1 0 -5 2 1 2 {list}"), "no");
+    says(&format!("reasons 2 6 0 1 5 1 0 -6 2 1 2 {list}"), "yes");
 }
 
 #[test]
@@ -121,18 +133,15 @@ fn day_10() {
     says(&format!("plan 2 1000 2 2 0 {line}"), "unlisted 2 2 4 | 1 1 | 255 255 | ");
     says(&format!("plan 2 2 2 2 0 {line}"), "unlisted 2 2 4 | 1 1 | 255 255 | ");
     says(&format!("plan 2 1 2 2 0 {line}"), "stopped 1 0 | 1 1 | 255 255 | ");
-    let rows = [row("240"), row("201"), row("0 2"), row("64 1")].join(" ");
-    says(&format!("reasons 2 {line} 64 {rows}"), "yes");
-    says(&format!("reasons 2 {line} 64 {}", rows.replace("64 1", "65 1")), "no");
+    says(&format!("reasons 2 {line} {}", list(&["240", "201", "0 2", "64 1"])), "yes");
+    says(&format!("reasons 2 {line} {}", list(&["240", "201", "0 2", "65 1"])), "no");
 }
 
 #[test]
 fn edges_and_refusals() {
     says("plan 2 9 2 1 0 3 0 1 100000 1 1", "plan 2 0 | 0 0 | 0 | ");
     says("plan 2 9 2 1 3 3 0 1 100001 1 1", "refused 6 | 1 1 | 255 | 255 255 255");
-    says("plan 17 1000001 2 1 0 1 0 2 9 9", "refused 1 | 1 1 | 255 | ");
-    says("lamps 16 0 0", &format!("lamps 0 0 0 64{}", " 0".repeat(32)));
-    says("lamps 17 0 0", &format!("lamps 1 0 0 64{}", " 0".repeat(32)));
+    says("plan 25 1000001 2 1 0 1 0 2 9 9", "refused 1 | 1 1 | 255 | ");
     says("times 2 0 0 1 5", "refused 8");
     says("times 2 3 0 1 -1 1 1 2 -2147483648 2147483647", "yes");
     says("times 2 3 0 1 100000 1 1 2 2147483647 -2147483648", "no");
@@ -320,7 +329,7 @@ fn laws_of_the_search() {
     }
 }
 
-/// A plan's times lie between −1,500,000 and 0, keep the problem, and are the latest.
+/// A plan's times lie between the farthest time and 0, keep the problem, and are the latest.
 #[test]
 fn plans_are_latest() {
     for asked in plan_requests(12, 6_000) {
@@ -329,7 +338,7 @@ fn plans_are_latest() {
         if let Ending::Plan(picks) = outcome.ending {
             let times = plain::latest_timetable(&problem, &picks).expect("the selection holds");
             assert_eq!(times, lowered(&problem, &picks));
-            assert!(times.iter().all(|time| (-1_500_000..=0).contains(time)));
+            assert!(times.iter().all(|time| (-FARTHEST_TIME..=0).contains(time)));
             assert!(problem.kept_by(&times));
             assert_eq!(plain::selection(&problem, outcome.before), picks);
         }

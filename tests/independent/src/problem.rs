@@ -2,11 +2,13 @@
 
 use std::ops::Range;
 
-pub const MOST_EVENTS: usize = 16;
+pub const MOST_EVENTS: usize = 24;
 pub const MOST_CLAUSES: usize = 32;
 pub const MOST_IN_CLAUSE: usize = 4;
 pub const MOST_ALTERNATIVES: usize = 64;
 pub const FARTHEST_BOUND: i64 = 100_000;
+/// How far before closing a plan's time may lie: a bound for each arc of a path that passes every event once.
+pub const FARTHEST_TIME: i64 = (MOST_EVENTS as i64 - 1) * FARTHEST_BOUND;
 pub const MOST_ALLOWANCE: u32 = 1_000_000;
 
 /// A refusal's number.

@@ -1,10 +1,11 @@
 //! The list of reasons: rows as bytes, what a cycle row must be, and the reader.
 
 use crate::facts::{cycle_below_0, one, opposite_of, Numbers};
-use crate::problem::{Problem, MOST_ALTERNATIVES};
+use crate::problem::{Problem, MOST_ALTERNATIVES, MOST_EVENTS};
 use crate::search::Row;
 
-pub const ROW: usize = 16;
+/// A row's bytes: a cycle that passes no event twice has at most as many arcs as there are events.
+pub const ROW: usize = MOST_EVENTS;
 pub const FILLING: u8 = 255;
 pub const GOES_ON: u8 = 240;
 pub const DEAD: u8 = 200;
@@ -36,7 +37,7 @@ pub fn is_row(problem: &Problem, row: Row, bytes: &[u8]) -> bool {
     }
 }
 
-/// A cycle row: 1 to 16 of the given numbers, then 255s; a closed walk with its sum below 0.
+/// A cycle row: one or more of the given numbers, then 255s; a closed walk with its sum below 0.
 pub fn is_cycle_row(problem: &Problem, numbers: Numbers, row: &[u8]) -> bool {
     let length = row.iter().position(|byte| *byte == FILLING).unwrap_or(row.len());
     let (cycle, rest) = row.split_at(length);

@@ -1,6 +1,7 @@
 //! Scripts of 02, A1, with their problems and refusals, written by hand; and laws over random scripts.
 
 use crate::dialogue::Request;
+use crate::problem::{MOST_CLAUSES, MOST_EVENTS};
 use crate::random::Random;
 use crate::requests::{peers, scripts};
 use crate::script::{self, Refused, KEPT, NOT_ALLOWED};
@@ -228,19 +229,20 @@ fn undeclared_and_twice_declared() {
     refused_between(&begun("(assert (<= (- x"), "\0");
 }
 
+/// With the most events of A4 in 02.
 #[test]
 fn sizes_of_events() {
     says(whole(""), "refused 1 0");
     says("(set-logic QF_IDL)(assert false)(check-sat) nothing more is read", "refused 1 0");
     breaks_off("(set-logic QF_IDL)(check-sat");
-    says(whole(&declarations(16)), "problem 16 0 0");
-    says(whole(&declarations(17)), "refused 1 0");
-    let seventeen = format!("(set-logic QF_IDL){}", declarations(17).trim_end());
-    says(&seventeen, "refused 1 0");
-    breaks_off(&seventeen[..seventeen.len() - 1]);
-    refused_between(&seventeen[..seventeen.len() - 1], "s");
-    let (front, _) = seventeen.split_at(seventeen.len() - "e16 () Int)".len());
-    refused_between(front, "e15 () Int)");
+    says(whole(&declarations(24)), "problem 24 0 0");
+    says(whole(&declarations(25)), "refused 1 0");
+    let one_too_many = format!("(set-logic QF_IDL){}", declarations(25).trim_end());
+    says(&one_too_many, "refused 1 0");
+    breaks_off(&one_too_many[..one_too_many.len() - 1]);
+    refused_between(&one_too_many[..one_too_many.len() - 1], "s");
+    let (front, _) = one_too_many.split_at(one_too_many.len() - "e24 () Int)".len());
+    refused_between(front, "e23 () Int)");
 }
 
 #[test]
@@ -304,7 +306,7 @@ fn scripts_read_as_their_problems() {
 /// The scripts for solvers are of their size, and what is expected of them is what the search says.
 #[test]
 fn scripts_for_peers() {
-    for (events, clauses) in [(1, 0), (1, 3), (2, 32), (4, 10), (16, 32)] {
+    for (events, clauses) in [(1, 0), (1, 3), (2, MOST_CLAUSES), (4, 10), (MOST_EVENTS, MOST_CLAUSES)] {
         for script in peers::scripts(events, clauses, 50, 22).expect("within the sizes") {
             let lent = script::read(&script.text).expect("a sound script");
             assert_eq!((lent.events as usize, lent.counts.len()), (events, clauses));

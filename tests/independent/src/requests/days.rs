@@ -7,13 +7,14 @@ use super::lists::rows_of_the_search;
 use super::problems::{lent, Triple};
 use super::sliders::bits_of;
 use crate::dialogue::{Asked, Request, LONGEST_LINE};
-use crate::problem::Lent;
-use crate::reasons::{filled, DEAD, GOES_ON};
+use crate::problem::{Lent, MOST_CLAUSES, MOST_EVENTS, MOST_IN_CLAUSE};
+use crate::reasons::{filled, DEAD, FILLING, GOES_ON, ROW};
 use crate::slider::{Kind, Use};
 
 pub fn lines() -> Vec<Vec<u8>> {
     let mut requests = plans();
     requests.extend(lists());
+    requests.extend(timetables());
     requests.extend(lamps());
     requests.extend(sliders());
     requests.extend(fixed_scripts::requests());
@@ -45,16 +46,26 @@ fn plans() -> Vec<Request> {
     let mut plans = Vec::new();
     for lent in days() {
         for allowance in [1_000, 0, 1, 2, 3, 4, 5, 1_000_000, 1_000_001] {
-            for reasons in [0, 15, 16, 31, 32, 47, 48, 63, 64, 80] {
+            for reasons in rooms() {
                 plans.push(Request::Plan(Asked { lent: lent.clone(), allowance, timetable: 5, picks: 4, reasons }));
             }
         }
     }
     for lent in edges() {
-        plans.push(Request::Plan(Asked { lent, allowance: 1_000_000, timetable: 17, picks: 33, reasons: 1_600 }));
+        let (timetable, picks) = (MOST_EVENTS + 1, MOST_CLAUSES + 1);
+        plans.push(Request::Plan(Asked { lent, allowance: 1_000_000, timetable, picks, reasons: 100 * ROW }));
     }
     plans
 }
+
+/// Rooms around the ends of rows.
+fn rooms() -> [usize; 11] {
+    let rows = |count: usize| count * ROW;
+    [0, rows(1) - 1, rows(1), rows(2) - 1, rows(2), rows(3) - 1, rows(3), rows(3) + 4, rows(4) - 1, rows(4), rows(5)]
+}
+
+/// The last event where there are as many as are taken.
+const LAST: i32 = MOST_EVENTS as i32 - 1;
 
 /// The largest and the first refused sizes; facts whose distances reach lowest.
 fn edges() -> Vec<Lent> {
@@ -62,38 +73,47 @@ fn edges() -> Vec<Lent> {
     vec![
         lent(2, &[vec![[0, 1, 100_000]]]),
         lent(2, &[vec![[0, 1, 100_001]]]),
-        lent(16, &[vec![[15, 0, -100_000]]]),
-        lent(17, &[vec![[15, 0, -100_000]]]),
-        lent(16, &clauses(32, &[[15, 0, 0], [0, 15, 0]])),
-        lent(16, &clauses(33, &[[15, 0, 0]])),
-        lent(16, &clauses(16, &[[3, 4, 0]; 4])),
-        lent(16, &clauses(17, &[[3, 4, 0]; 4])),
-        lent(16, &clauses(12, &[[3, 4, 0]; 5])),
+        lent(MOST_EVENTS, &[vec![[LAST, 0, -100_000]]]),
+        lent(MOST_EVENTS, &[vec![[LAST + 1, 0, -100_000]]]),
+        lent(MOST_EVENTS + 1, &[vec![[LAST, 0, -100_000]]]),
+        lent(MOST_EVENTS + 1, &[vec![[LAST + 1, 0, -100_000]]]),
+        lent(MOST_EVENTS, &clauses(32, &[[LAST, 0, 0], [0, LAST, 0]])),
+        lent(MOST_EVENTS, &clauses(33, &[[LAST, 0, 0]])),
+        lent(MOST_EVENTS, &clauses(16, &[[3, 4, 0]; 4])),
+        lent(MOST_EVENTS, &clauses(17, &[[3, 4, 0]; 4])),
+        lent(MOST_EVENTS, &clauses(12, &[[3, 4, 0]; 5])),
         chain(),
-        ring(),
+        ring(-1),
+        ring(0),
         lowest(),
     ]
 }
 
-/// A plan whose first event lies 1,500,000 minutes before closing.
+/// All events, each 100,000 minutes before the next: the first lies at the farthest time.
 fn chain() -> Lent {
-    let clauses: Vec<Vec<Triple>> = (1..16).map(|event| vec![[event - 1, event, -100_000]]).collect();
-    lent(16, &clauses)
+    let clauses: Vec<Vec<Triple>> = (0..LAST).map(|event| vec![[event, event + 1, -100_000]]).collect();
+    lent(MOST_EVENTS, &clauses)
 }
 
-/// All 16 events in one cycle below 0.
-fn ring() -> Lent {
-    let clauses: Vec<Vec<Triple>> =
-        (0..16).map(|event| vec![[event, (event + 1) % 16, i32::from(event == 15) - 1]]).collect();
-    lent(16, &clauses)
+/// All events in one cycle of this sum, which fills a row.
+fn ring(sum: i32) -> Lent {
+    let mut clauses: Vec<Vec<Triple>> = (0..LAST).map(|event| vec![[event, event + 1, -1]]).collect();
+    clauses.push(vec![[LAST, 0, LAST + sum]]);
+    lent(MOST_EVENTS, &clauses)
 }
 
-/// A search that comes to a standing of 15 opposites in a chain, 1,500,015 minutes down.
-fn lowest() -> Lent {
-    let mut clauses: Vec<Vec<Triple>> = (1..16).map(|event| vec![[event, event - 1, 100_000], [0, 0, 0]]).collect();
-    clauses.push(vec![[14, 15, 5], [14, 15, 5]]);
-    clauses.push(vec![[15, 14, -6], [15, 14, -6]]);
-    lent(16, &clauses)
+/// A search that comes to a standing with all events in a chain of opposites, each 100,001 minutes before the next.
+/// The three clauses of one alternative quarrel, but none of them is dead before the last of the others is chosen.
+pub fn lowest() -> Lent {
+    let opposed: Vec<Triple> = (1..=LAST).map(|event| [event, event - 1, 100_000]).collect();
+    let (front, last_two) = opposed.split_at(opposed.len() - 2);
+    let mut clauses = vec![vec![[LAST - 2, LAST, -100_000]]];
+    for alternatives in front.chunks(MOST_IN_CLAUSE - 1).chain([last_two]) {
+        clauses.push([alternatives, &[[0, 0, 0]]].concat());
+    }
+    clauses.push(vec![[LAST, LAST - 1, -1]]);
+    clauses.push(vec![[LAST - 1, LAST - 2, 100_000]]);
+    lent(MOST_EVENTS, &clauses)
 }
 
 /// Lists for the days and edges: empty, a mark alone, those of D4, and what the search writes.
@@ -106,6 +126,32 @@ fn lists() -> Vec<Request> {
         let own = lent.accepted().map(|problem| rows_of_the_search(&problem).concat());
         let lists = fixed.iter().cloned().chain(own);
         requests.extend(lists.map(|list| Request::Reasons { lent: lent.clone(), list }));
+    }
+    requests.extend(lists_of_the_ring());
+    requests
+}
+
+/// The ring's list, which ends with a full row: with a 255 or an arc more, without its last arc, and broken off.
+fn lists_of_the_ring() -> impl Iterator<Item = Request> {
+    let lent = ring(-1);
+    let problem = lent.accepted().expect("the ring is accepted");
+    let whole = rows_of_the_search(&problem).concat();
+    let broken_off = whole[..whole.len() - 1].to_vec();
+    let with = |list: &[u8], byte: u8| [list, &[byte]].concat();
+    let lists = [with(&whole, FILLING), with(&whole, 0), with(&broken_off, FILLING), broken_off];
+    lists.into_iter().map(move |list| Request::Reasons { lent: lent.clone(), list })
+}
+
+/// Timetables for the days and edges: all events at closing, and the chain's, whole and with its first event later
+/// or left out.
+fn timetables() -> Vec<Request> {
+    let chained: Vec<i32> = (-LAST..=0).map(|steps| 100_000 * steps).collect();
+    let mut later = chained.clone();
+    later[0] += 1;
+    let timetables = [vec![0; MOST_EVENTS], chained[1..].to_vec(), later, chained];
+    let mut requests = Vec::new();
+    for lent in days().into_iter().chain(edges()) {
+        requests.extend(timetables.iter().cloned().map(|times| Request::Times { lent: lent.clone(), times }));
     }
     requests
 }

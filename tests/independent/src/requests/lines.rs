@@ -2,6 +2,7 @@
 
 use crate::dialogue::LONGEST_LINE;
 use crate::random::Random;
+use crate::reasons::ROW;
 
 /// A line taken apart at its spaces.
 type Words = Vec<Vec<u8>>;
@@ -142,7 +143,7 @@ fn change_count(random: &mut Random, words: &mut Words) {
             zeros("times 1", &counts)
         }
         b"reasons" => {
-            let long = if random.one_in(10) { random.among(&[65_536, 65_537]) } else { 16 };
+            let long = if random.one_in(10) { random.among(&[65_536, 65_537]) } else { ROW };
             zeros("reasons 1", &[random.among(&[256, 257, 3]), random.among(&[1, 64, 65]), long])
         }
         b"script" => {

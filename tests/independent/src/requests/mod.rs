@@ -1,7 +1,7 @@
 //! Requests: random ones of every kind, made from a seed, after the worked days.
 
 pub mod bench;
-mod days;
+pub mod days;
 mod drafts;
 mod fixed_scripts;
 mod lines;
@@ -17,7 +17,7 @@ mod writing;
 pub use lists::closed_pair_not_below_0;
 
 use crate::dialogue::{Asked, Request, MOST_REASONS, MOST_TIMES};
-use crate::problem::{Lent, Problem, MOST_ALLOWANCE};
+use crate::problem::{Lent, Problem, FARTHEST_TIME, MOST_ALLOWANCE};
 use crate::random::Random;
 use crate::reasons::ROW;
 use crate::search::{search, Ending, Outcome};
@@ -193,10 +193,11 @@ fn moved(random: &mut Random, times: Vec<i64>) -> Vec<i32> {
 }
 
 fn any_times(random: &mut Random, events: usize) -> Vec<i32> {
-    let ends = random.one_in(3);
-    let any = |_| match ends {
-        true => random.among(&[i32::MIN, i32::MIN + 1, -1, 0, 1, i32::MAX - 1, i32::MAX]),
-        false => random.between(-100, 100) as i32,
+    let kind = random.below(4);
+    let any = |_| match kind {
+        0 => random.among(&[i32::MIN, i32::MIN + 1, -1, 0, 1, i32::MAX - 1, i32::MAX]),
+        1 => random.between(-FARTHEST_TIME, 0) as i32,
+        _ => random.between(-100, 100) as i32,
     };
     (0..events).map(any).collect()
 }

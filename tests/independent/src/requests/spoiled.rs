@@ -1,7 +1,7 @@
 //! Spoiled inputs: one for every refusal, and pairs of them.
 
 use crate::dialogue::{Asked, MOST_COUNTS, MOST_TRIPLE_NUMBERS};
-use crate::problem::{MOST_ALLOWANCE, MOST_CLAUSES};
+use crate::problem::{MOST_ALLOWANCE, MOST_CLAUSES, MOST_EVENTS};
 use crate::random::Random;
 
 /// Spoils a plan request for one refusal up to `most`, at times for two.
@@ -22,7 +22,8 @@ pub fn spoil(random: &mut Random, asked: &mut Asked, most: usize) {
 }
 
 fn spoil_events(random: &mut Random, asked: &mut Asked) {
-    asked.lent.events = random.among(&[0, 17, 18, 32, 1 << 16, 1 << 31, u32::MAX]);
+    let most = MOST_EVENTS as u32;
+    asked.lent.events = random.among(&[0, most + 1, most + 1, most + 2, 2 * most, 1 << 16, 1 << 31, u32::MAX]);
 }
 
 /// More than 32 clauses: empty ones at the end.

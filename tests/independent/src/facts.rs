@@ -1,6 +1,6 @@
 //! The test of facts: all-pairs distances, the latest timetable, and a cycle below 0.
 
-use crate::problem::{Alternative, Problem, MOST_ALTERNATIVES, MOST_EVENTS};
+use crate::problem::{Alternative, Problem, MOST_ALTERNATIVES};
 
 /// No path leads there. Far from overflow, whatever is added to it.
 const FAR: i64 = i64::MAX / 4;
@@ -27,17 +27,18 @@ pub fn members(numbers: Numbers) -> impl Iterator<Item = usize> {
 #[derive(Clone)]
 pub struct Distances {
     events: usize,
-    least: [[i64; MOST_EVENTS]; MOST_EVENTS],
+    /// From event 0 to each event, then from event 1 to each, and so on.
+    least: Vec<i64>,
 }
 
 impl Distances {
     /// The distances without any fact.
     pub fn without_facts(events: usize) -> Distances {
-        let mut least = [[FAR; MOST_EVENTS]; MOST_EVENTS];
-        for (event, row) in least.iter_mut().enumerate() {
-            row[event] = 0;
+        let mut distances = Distances { events, least: vec![FAR; events * events] };
+        for event in 0..events {
+            distances.offer(event, event, 0);
         }
-        Distances { events, least }
+        distances
     }
 
     /// The distances of the facts, each path by the events it may pass (Floyd–Warshall); None where a cycle is below 0.
@@ -49,13 +50,13 @@ impl Distances {
         for passed in 0..events {
             distances.pass(passed);
         }
-        let cycle_below_0 = (0..events).any(|event| distances.least[event][event] < 0);
+        let cycle_below_0 = (0..events).any(|event| distances.least(event, event) < 0);
         (!cycle_below_0).then_some(distances)
     }
 
     /// True if the alternative has a timetable together with the facts: its arc closes no cycle below 0.
     pub fn allow(&self, alternative: Alternative) -> bool {
-        self.least[alternative.x][alternative.y] + alternative.c >= 0
+        self.least(alternative.x, alternative.y) + alternative.c >= 0
     }
 
     /// The distances with one fact more; None where no timetable is left.
@@ -64,9 +65,9 @@ impl Distances {
             return None;
         }
         let mut more = self.clone();
-        for from in 0..self.events {
+        for from in (0..self.events).filter(|from| self.least(*from, fact.y) < FAR) {
             for to in 0..self.events {
-                more.offer(from, to, sum(sum(self.least[from][fact.y], fact.c), self.least[fact.x][to]));
+                more.offer(from, to, sum(self.least(from, fact.y) + fact.c, self.least(fact.x, to)));
             }
         }
         Some(more)
@@ -74,19 +75,24 @@ impl Distances {
 
     /// The latest timetable: distances from the extra source, which has an arc of weight 0 to every event.
     pub fn latest(&self) -> Vec<i64> {
-        let column = |event: usize| (0..self.events).map(move |from| self.least[from][event]);
+        let column = |event: usize| (0..self.events).map(move |from| self.least(from, event));
         (0..self.events).map(|event| column(event).fold(0, i64::min)).collect()
     }
 
+    fn least(&self, from: usize, to: usize) -> i64 {
+        self.least[from * self.events + to]
+    }
+
     fn offer(&mut self, from: usize, to: usize, length: i64) {
-        let entry = &mut self.least[from][to];
+        let entry = &mut self.least[from * self.events + to];
         *entry = length.min(*entry);
     }
 
     fn pass(&mut self, passed: usize) {
         for from in 0..self.events {
-            for to in 0..self.events {
-                self.offer(from, to, sum(self.least[from][passed], self.least[passed][to]));
+            let length = self.least(from, passed);
+            if length < FAR {
+                (0..self.events).for_each(|to| self.offer(from, to, sum(length, self.least(passed, to))));
             }
         }
     }

@@ -33,6 +33,13 @@ impl Random {
         self.below(count) == 0
     }
 
+    /// Puts the given things in any order.
+    pub fn shuffle<T>(&mut self, things: &mut [T]) {
+        for place in (1..things.len()).rev() {
+            things.swap(place, self.below(place + 1));
+        }
+    }
+
     /// One of the given things.
     pub fn among<T: Copy>(&mut self, things: &[T]) -> T {
         things[self.below(things.len())]

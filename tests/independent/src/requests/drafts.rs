@@ -61,9 +61,10 @@ pub fn problem(random: &mut Random) -> Lent {
     }
 }
 
-/// No event, or around 16 of them and more, in few asserts.
+/// No event, or as many as are taken and more, in few asserts.
 fn many_events(random: &mut Random) -> Lent {
-    let events = random.among(&[0, MOST_EVENTS, MOST_EVENTS + 1, MOST_EVENTS + 1, MOST_EVENTS + 2, 40]);
+    let (most, more) = (MOST_EVENTS, MOST_EVENTS + 1);
+    let events = random.among(&[0, most, most, more, more, more + 1, 2 * most]);
     let count = random.below(4);
     lent(events, &clauses(random, events, &vec![usize::from(events > 0); count]))
 }
@@ -91,7 +92,7 @@ fn many_alternatives(random: &mut Random) -> Lent {
         sizes.push(size);
         left -= size;
     }
-    let events = 1 + random.below(MOST_EVENTS);
+    let events = problems::some_events(random, 1);
     lent(events, &clauses(random, events, &sizes))
 }
 

@@ -26,6 +26,9 @@ pub fn list(random: &mut Random, problem: &Problem) -> Vec<u8> {
     if random.one_in(4) {
         change_byte(random, &mut list);
     }
+    if random.one_in(16) {
+        move_bytes(random, &mut list);
+    }
     end(random, &mut list);
     list.truncate(MOST_REASONS);
     list
@@ -167,13 +170,14 @@ fn rows_of_any_kind(random: &mut Random, problem: &Problem) -> Vec<Bytes> {
     (0..count).map(any).collect()
 }
 
-/// Changes whole rows: taken away, doubled, exchanged; a cycle turned, gone round twice or broken.
+/// Changes whole rows: taken away, doubled, exchanged; a cycle turned, gone round twice, broken, without its last
+/// number, with one number more, or with something in or after it. Often the last row, which mostly is a cycle.
 fn change_rows(random: &mut Random, rows: &mut Vec<Bytes>) {
     if rows.is_empty() {
         return;
     }
-    let place = random.below(rows.len());
-    match random.below(6) {
+    let place = if random.one_in(2) { rows.len() - 1 } else { random.below(rows.len()) };
+    match random.below(9) {
         0 => drop(rows.remove(place)),
         1 => rows.insert(place, rows[place]),
         2 => {
@@ -182,7 +186,10 @@ fn change_rows(random: &mut Random, rows: &mut Vec<Bytes>) {
         }
         3 => rows[place] = turned(&rows[place], random.below(ROW)),
         4 => rows[place] = twice_round(&rows[place]),
-        _ => rows[place].swap(0, 1 + random.below(ROW - 1)),
+        5 => rows[place].swap(0, 1 + random.below(ROW - 1)),
+        6 => rows[place] = cut_short(&rows[place]),
+        7 => rows[place] = one_longer(&rows[place]),
+        _ => rows[place][random.below(ROW)] = random.among(&[0, 254, FILLING]),
     }
 }
 
@@ -206,6 +213,33 @@ fn twice_round(row: &Bytes) -> Bytes {
         filled(&[cycle, cycle].concat())
     } else {
         *row
+    }
+}
+
+/// The cycle without its last number.
+fn cut_short(row: &Bytes) -> Bytes {
+    filled(&row[..used(row).saturating_sub(1)])
+}
+
+/// The cycle with its first number again at the end, where a row holds that.
+fn one_longer(row: &Bytes) -> Bytes {
+    match used(row) {
+        ROW => *row,
+        used => filled(&[&row[..used], &row[..1]].concat()),
+    }
+}
+
+/// Leaves out one byte or writes it twice, often in the last row; all after it are moved.
+fn move_bytes(random: &mut Random, list: &mut Vec<u8>) {
+    let behind = if random.one_in(2) { ROW.min(list.len()) } else { list.len() };
+    if behind == 0 {
+        return;
+    }
+    let place = list.len() - 1 - random.below(behind);
+    if random.one_in(2) {
+        list.remove(place);
+    } else {
+        list.insert(place, list[place]);
     }
 }
 

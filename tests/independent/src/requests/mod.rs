@@ -9,6 +9,7 @@ mod lists;
 mod names;
 pub mod peers;
 mod problems;
+mod rings;
 pub mod scripts;
 mod sliders;
 mod spoiled;

@@ -1,6 +1,7 @@
 //! Random problems that are accepted: in the manner of 000, section 3, and of other shapes.
 
 use super::lists::MOST_ROWS;
+use super::rings::ring;
 use crate::problem::{Lent, FARTHEST_BOUND, MOST_ALTERNATIVES, MOST_CLAUSES, MOST_EVENTS, MOST_IN_CLAUSE};
 use crate::random::Random;
 use crate::search::{search, Ending};
@@ -20,9 +21,9 @@ pub fn lent(events: usize, clauses: &[Vec<Triple>]) -> Lent {
     }
 }
 
-/// A problem of any shape.
+/// A problem of any shape; about a quarter have a number of events in the largest third.
 pub fn problem(random: &mut Random) -> Lent {
-    match random.below(13) {
+    match random.below(17) {
         0..=3 => small_as_in_000(random),
         4 => large_as_in_000(random),
         5..=6 => tiny(random),
@@ -30,7 +31,17 @@ pub fn problem(random: &mut Random) -> Lent {
         9 => at_the_ends(random),
         10 => with_one_alternative_clauses(random),
         11 => hard(random),
+        12..=15 => ring(random),
         _ => loose(random),
+    }
+}
+
+/// A number of events, so many at least; often one in the largest third.
+pub fn some_events(random: &mut Random, least: usize) -> usize {
+    if random.one_in(3) {
+        MOST_EVENTS - random.below(MOST_EVENTS / 3)
+    } else {
+        least + random.below(MOST_EVENTS + 1 - least)
     }
 }
 
@@ -47,12 +58,13 @@ pub fn with_a_list(random: &mut Random) -> Lent {
 }
 
 fn maybe_with_a_list(random: &mut Random) -> Lent {
-    match random.below(6) {
+    match random.below(11) {
         0 => as_in_000(random, 2, 4, 24, 100),
         1 => small_as_in_000(random),
         2 => with_one_alternative_clauses(random),
         3 => tiny(random),
-        _ => tight(random),
+        4..=6 => tight(random),
+        _ => ring(random),
     }
 }
 
@@ -97,7 +109,7 @@ fn small_as_in_000(random: &mut Random) -> Lent {
 }
 
 fn large_as_in_000(random: &mut Random) -> Lent {
-    let n = 5 + random.below(MOST_EVENTS - 4);
+    let n = some_events(random, 5);
     let k = random.among(&[1, 2, 2, 3, 4]);
     let most = MOST_CLAUSES.min(MOST_ALTERNATIVES / k);
     let m = most - random.below(most / 2);
@@ -159,12 +171,13 @@ fn clause_of_any_size(random: &mut Random, empty_too: bool, n: usize, l: i64) ->
 
 /// Chains of events with bounds at their ends, closed so that the sum is near 0.
 fn at_the_ends(random: &mut Random) -> Lent {
-    let n = 2 + random.below(MOST_EVENTS - 1);
+    let n = some_events(random, 2);
     let far = FARTHEST_BOUND as i32;
+    let seldom = random.among(&[5, 50]);
     let mut clauses: Vec<Vec<Triple>> = Vec::new();
     for event in 1..n as i32 {
         let mut clause = vec![[event - 1, event, -far]];
-        if random.one_in(5) {
+        if random.one_in(seldom) {
             let bound = random.among(&[far, far - 1, 1 - far, 0, -1]);
             clause.insert(random.below(2), [event, event - 1, bound]);
         }
@@ -179,12 +192,12 @@ fn at_the_ends(random: &mut Random) -> Lent {
     lent(n, &clauses)
 }
 
-/// A problem for the lamps: about half the clauses have one alternative, or any shape.
+/// A problem for the lamps: about half the clauses have one alternative or most of them, or any shape.
 pub fn with_lamps(random: &mut Random) -> Lent {
-    if random.one_in(3) {
-        problem(random)
-    } else {
-        with_one_alternative_clauses(random)
+    match random.below(12) {
+        0..=3 => problem(random),
+        4..=6 => ring(random),
+        _ => with_one_alternative_clauses(random),
     }
 }
 
@@ -201,9 +214,9 @@ fn with_one_alternative_clauses(random: &mut Random) -> Lent {
     lent(n, &clauses)
 }
 
-/// Up to all 16 events, 32 clauses and 64 alternatives, with bounds that mostly leave a plan.
+/// As many events, clauses and alternatives as are taken, or fewer, with bounds that mostly leave a plan.
 fn loose(random: &mut Random) -> Lent {
-    let n = 1 + random.below(MOST_EVENTS);
+    let n = some_events(random, 1);
     let most = random.below(MOST_CLAUSES + 1);
     let mut clauses: Vec<Vec<Triple>> = Vec::new();
     let mut left = MOST_ALTERNATIVES;

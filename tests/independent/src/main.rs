@@ -6,6 +6,8 @@ mod compare;
 #[cfg(test)]
 mod days_tests;
 mod dialogue;
+#[cfg(test)]
+mod events_tests;
 mod facts;
 mod lamps;
 mod pipe;

@@ -131,15 +131,18 @@ fn lists() -> Vec<Request> {
     requests
 }
 
-/// The ring's list, which ends with a full row: with a 255 or an arc more, without its last arc, and broken off.
-fn lists_of_the_ring() -> impl Iterator<Item = Request> {
+/// The ring's list, which ends with a full row: with a 255 or an arc more, without its last arc, broken off, and for
+/// the ring of sum 0.
+fn lists_of_the_ring() -> Vec<Request> {
     let lent = ring(-1);
     let problem = lent.accepted().expect("the ring is accepted");
     let whole = rows_of_the_search(&problem).concat();
     let broken_off = whole[..whole.len() - 1].to_vec();
     let with = |list: &[u8], byte: u8| [list, &[byte]].concat();
     let lists = [with(&whole, FILLING), with(&whole, 0), with(&broken_off, FILLING), broken_off];
-    lists.into_iter().map(move |list| Request::Reasons { lent: lent.clone(), list })
+    let mut requests: Vec<Request> = lists.map(|list| Request::Reasons { lent: lent.clone(), list }).into();
+    requests.push(Request::Reasons { lent: ring(0), list: whole });
+    requests
 }
 
 /// Timetables for the days and edges: all events at closing, and the chain's, whole and with its first event later
@@ -160,8 +163,8 @@ fn lamps() -> Vec<Request> {
     days().into_iter().chain(edges()).map(|lent| Request::Lamps { lent }).collect()
 }
 
-/// The sliders of 01 and of A2 in 02, a Rate at the bound's limit, and two that are whole though 1 ÷ position is
-/// not; each in both uses.
+/// The sliders of 01 and of A2 in 02, a Rate at the bound's limit, two that are whole though 1 ÷ position is not, and
+/// one of the greatest work; each in both uses.
 fn sliders() -> Vec<Request> {
     let span = |low, high| Kind::Span { low: bits_of(low, 0), high: bits_of(high, 0) };
     let rate = |work| Kind::Rate { work: bits_of(work, 0) };
@@ -176,6 +179,7 @@ fn sliders() -> Vec<Request> {
         (rate(3_125), 8),
         (rate(21), 7),
         (rate(41), 41),
+        (rate(4_096), 256),
     ];
     shown.extend(fixed_values().map(|value| (Kind::Fixed { value }, 0)));
     let slide = |(kind, k), used| Request::Slide { kind, position: bits_of(k, 8), used };

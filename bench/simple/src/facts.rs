@@ -1,8 +1,6 @@
 //! The test of facts, worked out afresh: Bellman–Ford from the extra source, ended early where nothing changes.
 
-use crate::problem::Arc;
-
-pub const MOST_EVENTS: usize = 16;
+use crate::problem::{Arc, MOST_EVENTS};
 
 /// The latest timetable of the facts; None where they have none.
 pub fn latest(events: usize, facts: &[Arc]) -> Option<[i32; MOST_EVENTS]> {

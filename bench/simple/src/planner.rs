@@ -1,9 +1,9 @@
 //! The same search as 01's, every test of facts worked out afresh.
 
 use crate::facts::{cycle, latest};
-use crate::problem::{Arc, Problem};
+use crate::problem::{Arc, MOST_EVENTS, Problem};
 
-const ROW: usize = 16;
+const ROW: usize = MOST_EVENTS;
 const FILLING: u8 = 255;
 
 pub enum Answer {

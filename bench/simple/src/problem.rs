@@ -1,5 +1,7 @@
 //! The problem as it is lent, and the refusals.
 
+pub const MOST_EVENTS: usize = 24;
+
 /// The triples and the clause counts, as they come.
 pub struct Problem {
     pub events: u32,
@@ -50,7 +52,7 @@ impl Problem {
         let triples = || self.triples.chunks(3);
         let event_known = |event: &i32| *event >= 0 && (*event as u32) < self.events;
         match () {
-            _ if self.events < 1 || self.events > 16 => Some(1),
+            _ if self.events < 1 || self.events as usize > MOST_EVENTS => Some(1),
             _ if self.counts.len() > 32 => Some(2),
             _ if self.triples.len() % 3 != 0 || self.triples.len() > 192 => Some(3),
             _ if !self.counts_fit() => Some(4),

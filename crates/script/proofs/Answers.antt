@@ -1,7 +1,7 @@
 -- Worked texts with their answers, which antt computes: one table, one claim. Assumes nothing.
 use mathlib.Core.Path.{_≡_, refl}
 use mathlib.Core.List.{List, [], _∷_, _++_, map}
-use Prim.Native.Nat.{ℕ, zero, suc, _+_}
+use Prim.Native.Nat.{ℕ, zero, suc, _+_, _-_, _/_, _%_}
 use Prim.Native.String.{String}
 use lib.IntN.{pos, negℤ}
 use lib.ListN.{length}
@@ -64,25 +64,28 @@ sizes :
 unfolding copies begun answerTo bytes among isA roleNo spelled blank gap parting opening closingAs symbolAs numeralAs bound difference atom optional held declared command setLogic checkSat script ends live follow isNone choose after roleOf placeFrom joinTo pieces sameWord keptWords oneOf eventOf isNew areDigits valueFrom digitsFrom unsignedOf withNew withEvent withBound withName withClause withCheck readPiece readAll settled answerAt
 sizes = refl
 
--- so many names of one letter, from a letter on, and their declarations
-letters : ℕ → ℕ → List (List ℕ)
-letters a zero = []
-letters a (suc k) = (a ∷ []) ∷ letters (suc a) k
+-- the name of an event, e00 to e99; those of so many events, from one on; and their declarations
+name : ℕ → List ℕ
+name e = bytes "e" ++ ((48 + e / 10) ∷ (48 + e % 10) ∷ [])
+
+namesFrom : ℕ → ℕ → List (List ℕ)
+namesFrom e zero = []
+namesFrom e (suc more) = name e ∷ namesFrom (suc e) more
 
 declarations : List (List ℕ) → List ℕ
 declarations [] = []
-declarations (name ∷ more) = bytes "(declare-const " ++ (name ++ (bytes " Int)" ++ declarations more))
+declarations (n ∷ more) = bytes "(declare-const " ++ (n ++ (bytes " Int)" ++ declarations more))
 
--- a text up to so many declarations, of a, b, c and so on; and one with a declaration more than there may be, up to its last parenthesis
+-- a text up to so many declarations; and one with a declaration more than there may be, up to its last parenthesis
 upTo : ℕ → List ℕ
-upTo k = bytes "(set-logic QF_IDL)" ++ declarations (letters 97 k)
+upTo k = bytes "(set-logic QF_IDL)" ++ declarations (namesFrom 0 k)
 
 almost : List ℕ
-almost = upTo mostEvents ++ bytes "(declare-const z Int"
+almost = upTo mostEvents ++ bytes "(declare-const x Int"
 
 -- as many declarations as there may be events are read; one more is refused with 1 at its end, and no sooner
 declared-events :
     map answerTo ((upTo mostEvents ++ bytes "(check-sat)") ∷ upTo (mostEvents + 1) ∷ almost ∷ [])
-    ≡ going (record { names = letters 97 mostEvents; new = (96 + mostEvents) ∷ []; x = 0; y = 0; triples = []; counts = [] }) ∷ refused 1 0 ∷ refused 20 (length almost) ∷ []
-unfolding letters declarations upTo almost answerTo bytes among isA roleNo spelled blank gap parting opening closingAs symbolAs numeralAs bound difference atom optional held declared command setLogic checkSat script ends live follow isNone choose after roleOf placeFrom joinTo pieces sameWord keptWords oneOf eventOf isNew areDigits valueFrom digitsFrom unsignedOf withNew withEvent withBound withName withClause withCheck readPiece readAll settled answerAt
+    ≡ going (record { names = namesFrom 0 mostEvents; new = name (mostEvents - 1); x = 0; y = 0; triples = []; counts = [] }) ∷ refused 1 0 ∷ refused 20 (length almost) ∷ []
+unfolding name namesFrom declarations upTo almost answerTo bytes among isA roleNo spelled blank gap parting opening closingAs symbolAs numeralAs bound difference atom optional held declared command setLogic checkSat script ends live follow isNone choose after roleOf placeFrom joinTo pieces sameWord keptWords oneOf eventOf isNew areDigits valueFrom digitsFrom unsignedOf withNew withEvent withBound withName withClause withCheck readPiece readAll settled answerAt
 declared-events = refl

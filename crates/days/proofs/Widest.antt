@@ -16,7 +16,7 @@ use Rattle.meaning.specs.Reasons.{named, given, walk, loops, numbers, blank, fi
 use Rattle.meaning.specs.Screen.{Lent, alternatives, parted, clausesOf, stepped, events, bounds, problemTests, planTests, firstFailed, problemRefusal, refusal, cleared, listed, shown, decided, screen}
 use Rattle.meaning.specs.Verdicts.{verdict, reasonsVerdict}
 use Rattle.meaning.specs.Lamps.{forced, lampsOf, joined, bits, ones, firstLit, lit, panelOf, dark, shownPanel, panel}
-use Rattle.meaning.proofs.Days.{Day, Seen, alt, lent, day, usual, minus, seen, rowSeen, ones-of, blanks-of}
+use Rattle.meaning.proofs.Days.{Day, alt, lent, day, usual, minus, seen, rowSeen, ones-of, blanks-of}
 
 -- so many numbers, from the first on
 abbrev numbersFrom : ℕ → ℕ → List ℕ
@@ -43,15 +43,21 @@ chain = lent mostEvents (ahead (minus mostBound) (numbersFrom 0 lastEvent)) (num
 abbrev ring : Lent
 ring = lent mostEvents (ahead (pos 0) (numbersFrom 0 lastEvent) ++ alt lastEvent 0 (minus 1)) (numbersFrom 1 mostEvents)
 
-abbrev widest : List Day
-widest =
-    day (usual chain) (Plan mostEvents 0) (map (λ (e : ℕ). minus (e * mostBound)) downward ++ pos 1 ∷ pos 1 ∷ []) (replicate lastEvent 0 ++ blankByte ∷ []) [] (2 ^ lastEvent - 1) lastEvent
-    ∷ day (usual ring) (None mostEvents 1 (mostEvents + 1)) (ones-of mostEvents) (blanks-of mostEvents) (replicate lastEvent (onwardMark ∷ []) ++ ((deadMark + lastEvent) ∷ []) ∷ downward ∷ []) 0 0
-    ∷ []
+-- planned from as far before closing as a day may begin
+abbrev chain-day : Day
+chain-day = day (usual chain) (Plan mostEvents 0) (map (λ (e : ℕ). minus (e * mostBound)) downward ++ pos 1 ∷ pos 1 ∷ []) (replicate lastEvent 0 ++ blankByte ∷ []) [] (2 ^ lastEvent - 1) lastEvent
 
-pub widest-hold : map (λ (d : Day). seen (d .input)) widest ≡ map (λ (d : Day). d .expected) widest
+pub chain-holds : seen (chain-day .input) ≡ chain-day .expected
 unfolding seen rowSeen screen decided shown listed cleared refusal problemRefusal problemTests planTests firstFailed bounds events stepped clausesOf parted alternatives panel shownPanel panelOf dark lit lampsOf joined bits ones firstLit forced search branch andThen later look enter firstDead dead sound reach soundBy settled latestOf least rounds round raise ask opposite product
-widest-hold = refl
+chain-holds = refl
+
+-- each clause but the last goes on, the last is dead, and its cycle may name every arc
+abbrev ring-day : Day
+ring-day = day (usual ring) (None mostEvents 1 (mostEvents + 1)) (ones-of mostEvents) (blanks-of mostEvents) (replicate lastEvent (onwardMark ∷ []) ++ ((deadMark + lastEvent) ∷ []) ∷ downward ∷ []) 0 0
+
+pub ring-holds : seen (ring-day .input) ≡ ring-day .expected
+unfolding seen rowSeen screen decided shown listed cleared refusal problemRefusal problemTests planTests firstFailed bounds events stepped clausesOf parted alternatives panel shownPanel panelOf dark lit lampsOf joined bits ones firstLit forced search branch andThen later look enter firstDead dead sound reach soundBy settled latestOf least rounds round raise ask opposite product
+ring-holds = refl
 
 -- the rows of the ring, the last of them as given
 abbrev marks : ℕ → List ℕ

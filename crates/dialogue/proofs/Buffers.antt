@@ -92,6 +92,26 @@ pub after : {s₁ s₂ : List ℕ} {at₁ at₂ : ℕ} (s : List ℕ) (at : ℕ)
     → (s₂ ≡ written s₁ at₁ u) × (at₂ ≡ writtenTo s₁ at₁ u) → (s₂ ≡ written s at (t ++ u)) × (at₂ ≡ writtenTo s at (t ++ u))
 after s at t u p q = (q .0 ∙ rw (p .0, p .1) (written-then s at t u), q .1 ∙ rw (p .0, p .1) (to-then s at t u))
 
+-- what a call wrote is the first of two texts, and the second remains
+pub first : {s₁ : List ℕ} {at₁ : ℕ} (s : List ℕ) (at : ℕ) (t u : List ℕ) → (s₁ ≡ written s at t) × (at₁ ≡ writtenTo s at t)
+    → (written s at (t ++ u) ≡ written s₁ at₁ u) × (writtenTo s at (t ++ u) ≡ writtenTo s₁ at₁ u)
+first s at t u p = (rw (p .0, p .1) (sym (written-then s at t u)), rw (p .0, p .1) (sym (to-then s at t u)))
+
+-- where there is room for all of it
+pub written-fits : (s t : List ℕ) → length t ≤ length s → written s 0 t ≡ t ++ drop (length t) s
+unfolding written
+written-fits [] [] h = refl
+written-fits [] (b ∷ t) h = absurd (omega arith)
+written-fits (x ∷ s) [] h = refl
+written-fits (x ∷ s) (b ∷ t) h = ap (λ (l : List ℕ). b ∷ l) (written-fits s t (le-of-suc-le-suc h))
+
+pub to-fits : (s t : List ℕ) → length t ≤ length s → writtenTo s 0 t ≡ length t
+unfolding writtenTo
+to-fits [] [] h = refl
+to-fits [] (b ∷ t) h = absurd (omega arith)
+to-fits (x ∷ s) [] h = refl
+to-fits (x ∷ s) (b ∷ t) h = ap suc (to-fits s t (le-of-suc-le-suc h))
+
 -- a list of texts, each led by a space, from i on: a space, the next text, and the rest
 module _ {A : Type 0} (f : A → List ℕ) (l : List A) (i : ℕ) (z : A) (h : i < length l) (s s₁ s₂ : List ℕ) (at at₁ at₂ : ℕ)
     (e₁ : s₁ ≡ written s at (32 ∷ []))

@@ -47,6 +47,23 @@ places-fit n k h f = by (leb k 20) refl
         let g = leb-false k 20 e in
         absurd (omega (arith, f .2 (omega arith), pow-le-pow-right {n = 10} (omega arith) {i = 20} {j = k - 1} (omega arith)))
 
+-- a number below 10^(k + 1) takes at most k + 1 places
+pub short-decimal : (places k n : ℕ) → n < 10 ^ suc k → length (decimalIn places n) ≤ suc k
+unfolding decimalIn
+short-decimal zero k n h = omega arith
+short-decimal (suc places) k n h = by (ltb n 10) refl (λ j e l. short-decimal places j (n / 10) l)
+  where
+    fewer : (j : ℕ) → n < 10 ^ suc (suc j) → n / 10 < 10 ^ suc j
+    fewer j l = div-lt-iff-lt-mul {k = 10} (omega arith) .1 (rw pow-suc at l)
+
+    last : (k : ℕ) → n < 10 ^ suc k → 10 ≤ n → ((j : ℕ) → k ≡ suc j → n / 10 < 10 ^ suc j → length (decimalIn places (n / 10)) ≤ suc j) → length (decimalIn places (n / 10) ++ ((48 + n % 10) ∷ [])) ≤ suc k
+    last zero l g f = absurd (omega (arith, pow-suc 10 0, pow-zero 10))
+    last (suc j) l g f = omega (arith, f j refl (fewer j l), length-append (decimalIn places (n / 10)) ((48 + n % 10) ∷ []))
+
+    by : (t : Bool) → ltb n 10 ≡ t → ((j : ℕ) → k ≡ suc j → n / 10 < 10 ^ suc j → length (decimalIn places (n / 10)) ≤ suc j) → length (cond t ((48 + n) ∷ []) (decimalIn places (n / 10) ++ ((48 + n % 10) ∷ []))) ≤ suc k
+    by true e f = omega arith
+    by false e f = last k h (ltb-false n 10 e) f
+
 -- ---- what is written reads back
 
 value-last : (v : ℕ) (w : List ℕ) (d : ℕ) → valueFrom v (w ++ (d ∷ [])) ≡ valueFrom v w * 10 + (d - 48)

@@ -24,3 +24,4 @@ pub use writing::put_number;
 pub use writing::put_numbers;
 pub use writing::put_signed;
 pub use writing::put_times;
+pub use writing::size;

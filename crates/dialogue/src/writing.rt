@@ -34,7 +34,7 @@ pub fn put_number(out: &mut [u8], at: usize, n: u64) -> usize
 }
 
 // The size of a number, its sign apart.
-fn size(z: i32) -> u64
+pub fn size(z: i32) -> u64
     ensures { λ r. ⌜ r ≡ natAbs z ⌝ }
 {
     if z < 0 {

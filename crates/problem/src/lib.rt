@@ -131,7 +131,7 @@ fn all_bounds(triples: &[i32]) -> bool
 }
 
 // The lowest refusal number of 1 to 6 that applies, or 0.
-fn refusal(n: u32, triples: &[i32], counts: &[u32]) -> u8
+pub fn refusal(n: u32, triples: &[i32], counts: &[u32]) -> u8
     ensures { λ r. ⌜ r ≡ problemRefusal (given n (now (triples .entry)) (now (counts .entry))) ⌝ }
 {
     if n < 1 {

@@ -7,16 +7,12 @@ use lib.IntN.{ℤ, pos}
 use lib.ListN.{length, take, replicate}
 use lib.Seq.{take-append-seam, take-take}
 use Rattle.meaning.specs.Limits.{mostClauses, mostAlternatives}
-use Rattle.meaning.specs.Screen.{Lent, problemRefusal}
+use Rattle.meaning.specs.Screen.{problemRefusal}
 use Rattle.script.specs.declared.Script.{Script}
 use Rattle.script.specs.Reading.{Read, Answer, going, refused, answerAt}
-use Rattle.script.specs.Script.{fitted, told, scriptAt, scriptIn}
+use Rattle.script.specs.Script.{fitted, told, scriptAt, scriptIn, lentIn}
 use Rattle.script.proofs.Accepting.{lentOf, Sized, read-sized, script-accepted}
 use Rattle.script.proofs.Faults.{refusal-numbered}
-
--- the problem that the used front says
-abbrev pub lentIn : Script → Lent
-lentIn s = record { n = s .n; triples = take (3 * s .alternatives) (s .triples); counts = take (s .clauses) (s .counts) }
 
 front-fitted : {A : Type 0} (w k : ℕ) (z : A) (l : List A) → k ≡ length l → k ≤ w → take k (fitted w z l) ≡ l
 front-fitted w k z l e h = take-take k w (l ++ replicate w z) h ∙ ap (λ (j : ℕ). take j (l ++ replicate w z)) e ∙ take-append-seam l (replicate w z)

@@ -8,3 +8,7 @@ pub mod Faults
 pub mod Accepting
 pub mod Clauses
 pub mod Fronts
+pub mod Parting
+pub mod Putting
+pub mod Lengths
+pub mod Leaving

@@ -3,3 +3,4 @@ pub mod Reading
 pub mod Said
 pub mod Script
 pub mod Notes
+pub mod Text

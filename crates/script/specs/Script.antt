@@ -4,6 +4,7 @@ use Prim.Native.Nat.{ℕ, _*_, _/_}
 use lib.IntN.{ℤ, pos}
 use lib.ListN.{length, take, replicate}
 use Rattle.meaning.specs.Limits.{mostClauses, mostAlternatives}
+use Rattle.meaning.specs.Screen.{Lent}
 use Rattle.script.specs.declared.Script.{Script}
 use Rattle.script.specs.Reading.{Answer, going, refused, answerAt}
 
@@ -37,3 +38,11 @@ scriptAt text at = told (answerAt text at)
 -- what `read_script` gives
 abbrev pub scriptIn : List ℕ → Script
 scriptIn text = scriptAt text 0
+
+-- the problem that the used front of its arrays says, as 01 has it lent
+abbrev pub lentIn : Script → Lent
+lentIn s = record { n = s .n; triples = take (3 * s .alternatives) (s .triples); counts = take (s .clauses) (s .counts) }
+
+-- a program that is handed a script "reads at most 65,536 bytes from standard input"
+abbrev pub mostBytes : ℕ
+mostBytes = 65536

@@ -18,11 +18,11 @@ use Rattle.meaning.proofs.Accepted.{all-passed, none-failed, passed-both, passe
 use Rattle.meaning.proofs.Demands.{found-first, closed-none}
 use Rattle.meaning.proofs.Endings.{Ending, refuses, plans, lists, omits, stops, ending, Kept}
 use Rattle.meaning.proofs.Visits.{Stops, need, enough}
-use Rattle.script.specs.Script.{scriptIn}
-use Rattle.script.proofs.Fronts.{lentIn, script-problem}
+use Rattle.script.specs.Script.{scriptIn, lentIn, mostBytes}
+use Rattle.script.proofs.Fronts.{script-problem}
 use Rattle.solve.specs.declared.Saying.{Saying}
 use Rattle.solve.specs.declared.Saying.the-variants.{Sat, Unsat, Unknown, Refused, TooLong}
-use Rattle.solve.specs.Says.{ofAnswer, asked, ofScript, mostBytes, says}
+use Rattle.solve.specs.Says.{ofAnswer, asked, ofScript, says}
 
 abbrev pub Meant : List ℕ → Saying → Type 0
 Meant text Sat = Kept (lentIn (scriptIn text))

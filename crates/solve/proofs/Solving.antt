@@ -7,9 +7,9 @@ use lib.ListN.{length}
 use Rattle.meaning.specs.declared.Answer.{Answer}
 use Rattle.meaning.specs.Screen.{screen}
 use Rattle.script.specs.declared.Script.{Script}
-use Rattle.script.specs.Script.{scriptIn}
+use Rattle.script.specs.Script.{scriptIn, mostBytes}
 use Rattle.solve.specs.declared.Saying.the-variants.{Refused, TooLong}
-use Rattle.solve.specs.Says.{ofAnswer, asked, ofScript, mostBytes, says}
+use Rattle.solve.specs.Says.{ofAnswer, asked, ofScript, says}
 
 module _ (text : List ℕ) where
   pub says-too-long : mostBytes < length text → TooLong ≡ says text

@@ -10,7 +10,7 @@ use Rattle.meaning.specs.Limits.{mostEvents, mostClauses, mostAllowance}
 use Rattle.meaning.specs.Screen.{Input, screen}
 use Rattle.grammar.specs.Grammar.{bytes}
 use Rattle.script.specs.declared.Script.{Script}
-use Rattle.script.specs.Script.{scriptIn}
+use Rattle.script.specs.Script.{scriptIn, mostBytes}
 use Rattle.planner.specs.Call.{call}
 use Rattle.exchange.specs.Replies.{refusedText, refusedAtText}
 use Rattle.solve.specs.declared.Saying.{Saying}
@@ -31,10 +31,6 @@ asked s = call (s .n) (take (3 * s .alternatives) (s .triples)) (take (s .clause
 unfoldable pub ofScript : Script → ℕ → Saying
 ofScript s zero = ofAnswer (screen (asked s) .answer)
 ofScript s (suc r) = Refused (suc r) (s .place)
-
--- "at most 65,536 bytes"
-abbrev pub mostBytes : ℕ
-mostBytes = 65536
 
 unfoldable pub says : List ℕ → Saying
 says text = let r = ofScript (scriptIn text) (scriptIn text .number) in cond (ltb mostBytes (length text)) TooLong r

@@ -1,0 +1,64 @@
+-- What a call of `write_script` answers and leaves, by whether the problem is accepted and the text fits. Assumes nothing.
+use mathlib.Core.Path.{_≡_, refl, ap, _∙_}
+use mathlib.Core.Bool.{true}
+use mathlib.Core.List.{List, _++_}
+use Prim.Native.Nat.{ℕ, zero, suc, _-_, _≤_, _<_}
+use native.Mathlib.Omega.{arith}
+use borrow.Author.Tests.{le-leb, lt-leb}
+use lib.Dec.{leb}
+use lib.ListN.{length, take, drop, length-append, length-replicate}
+use lib.Seq.{take-append-seam}
+use Rattle.laws.proofs.Lists.{drop-replicate}
+use Rattle.meaning.specs.Screen.{Lent, problemRefusal}
+use Rattle.dialogue.specs.Written.{written, writtenTo}
+use Rattle.dialogue.proofs.Buffers.{written-fits, to-fits}
+use Rattle.script.specs.declared.writing.Written.the-variants.{Text, Refused}
+use Rattle.script.specs.Text.{textOf, longestText, orElse, writeRefusal, answered, zeros, roomAfter, Writes}
+use Rattle.script.proofs.Lengths.{text-length}
+
+pub length-zeros : (k : ℕ) → length (zeros k) ≡ k
+length-zeros k = let z : ℕ = 0 in length-replicate k z
+
+drop-zeros : (n k : ℕ) → drop n (zeros k) ≡ zeros (k - n)
+drop-zeros n k = let z : ℕ = 0 in drop-replicate n k z
+
+-- the text of an accepted problem was put whole into a buffer for the longest: all of it stands at the front
+pub record Whole (l : Lent) (buffer : List ℕ) (to : ℕ) : Type 0 where
+  pub to-is : to ≡ length (textOf l)
+  pub within : to ≤ length buffer
+  pub front : take to buffer ≡ textOf l
+
+pub put-whole : (l : Lent) (buffer : List ℕ) (to : ℕ) → problemRefusal l ≡ 0 → (buffer ≡ written (zeros longestText) 0 (textOf l)) × (to ≡ writtenTo (zeros longestText) 0 (textOf l)) → Whole l buffer to
+put-whole l buffer to e p =
+    let fits : length (textOf l) ≤ length (zeros longestText) = omega (arith, text-length l e, length-zeros longestText) in
+    let to-is : to ≡ length (textOf l) = p .1 ∙ to-fits (zeros longestText) (textOf l) fits in
+    let is : buffer ≡ textOf l ++ drop (length (textOf l)) (zeros longestText) = p .0 ∙ written-fits (zeros longestText) (textOf l) fits in
+    record {
+      to-is = to-is;
+      within = omega (arith, ap length is, length-append (textOf l) (drop (length (textOf l)) (zeros longestText)));
+      front = rw (to-is, is) (take-append-seam (textOf l) (drop (length (textOf l)) (zeros longestText)));
+    }
+
+module _ (l : Lent) (room : ℕ) where
+  -- by the number that refuses it, or 0
+  by-number : (number : ℕ) → writeRefusal l room ≡ suc number → Writes l room (Refused (suc number)) (zeros room)
+  unfolding answered roomAfter
+  by-number number e = record { answers = rw e; room-is = rw e }
+
+  pub leaves-refused : (number : ℕ) → number ≡ problemRefusal l → (number ≡ 0 → ⊥) → Writes l room (Refused number) (zeros room)
+  unfolding writeRefusal orElse
+  leaves-refused zero e n = absurd (n refl)
+  leaves-refused (suc number) e n = by-number number (rw (← e))
+
+  pub leaves-too-long : problemRefusal l ≡ 0 → room < length (textOf l) → Writes l room (Refused 21) (zeros room)
+  unfolding writeRefusal orElse
+  leaves-too-long e h = by-number 20 (rw (e, lt-leb (length (textOf l)) room h))
+
+  -- the text stands in the place of the first of the zeros
+  pub leaves-text : (buffer : List ℕ) (to : ℕ) → problemRefusal l ≡ 0 → Whole l buffer to → to ≤ room → Writes l room (Text to) (take to buffer ++ drop (length (take to buffer)) (zeros room))
+  unfolding writeRefusal orElse answered roomAfter
+  leaves-text buffer to e w h =
+      let to-is = w .to-is in
+      let fits : length (textOf l) ≤ room = omega arith in
+      let taken : leb (length (textOf l)) room ≡ true = le-leb (length (textOf l)) room fits in
+      record { answers = rw (e, taken, to-is); room-is = rw (e, taken, w .front, drop-zeros (length (textOf l)) room) }

@@ -109,6 +109,36 @@ spells (suc places) n h z = by (ltb n 10) refl (λ g. spells places (n / 10) (di
         more zero h g = absurd (omega (arith, pow-suc 10 0, pow-zero 10))
         more (suc p) h g = omega arith
 
+pub decimal-digits : (n : ℕ) → n < 10 ^ 20 → areDigits (decimal n) ≡ true
+decimal-digits n h = spells 20 n h (omega arith) .all-digits
+
+-- no number but 0 is written with a leading zero
+pub record Leading (w : List ℕ) : Type 0 where
+  pub first : ℕ
+  pub rest : List ℕ
+  pub is : w ≡ first ∷ rest
+  pub low : 49 ≤ first
+  pub high : first ≤ 57
+  pub digits : areDigits rest ≡ true
+
+leading-more : (w : List ℕ) (d : ℕ) → Leading w → 48 ≤ d → d ≤ 57 → Leading (w ++ (d ∷ []))
+leading-more w d l m h = record { first = l .first; rest = l .rest ++ (d ∷ []); is = rw (l .is); low = l .low; high = l .high; digits = digits-last (l .rest) d (l .digits) m h }
+
+leads : (places n : ℕ) → 0 < n → n < 10 ^ places → Leading (decimalIn places n)
+unfolding decimalIn areDigits
+leads zero n z h = absurd (omega (arith, pow-zero 10))
+leads (suc places) n z h = by (ltb n 10) refl (λ g. leads places (n / 10) g (div-lt-iff-lt-mul {k = 10} (omega arith) .1 (rw pow-suc at h)))
+  where
+    by : (t : Bool) → ltb n 10 ≡ t → (0 < n / 10 → Leading (decimalIn places (n / 10))) → Leading (cond t ((48 + n) ∷ []) (decimalIn places (n / 10) ++ ((48 + n % 10) ∷ [])))
+    by true e f = let low : n < 10 = ltb-true n 10 e in record { first = 48 + n; rest = []; is = refl; low = omega arith; high = omega arith; digits = refl }
+    by false e f =
+        let high : 10 ≤ n = ltb-false n 10 e in
+        let d : n % 10 < 10 = mod-lt n (omega arith) in
+        leading-more (decimalIn places (n / 10)) (48 + n % 10) (f (omega (arith, div-add-mod' n 10))) (omega arith) (omega arith)
+
+pub decimal-leads : (n : ℕ) → 0 < n → n < 10 ^ 20 → Leading (decimal n)
+decimal-leads n z h = leads 20 n z h
+
 spelled : (most n : ℕ) (w : List ℕ) → n ≤ most → Spells w n → digitsFrom most 0 w ≡ some n
 unfolding digitsFrom
 spelled most n w l s = rw (s .all-digits, s .the-value, le-leb n most l)

@@ -30,7 +30,7 @@ abbrev piece : Role → ℕ → List ℕ → Piece
 piece r i w = record { role = r; from = i; word = w }
 
 -- bytes of one role in front of further bytes of that role are one run
-join-join : (at i : ℕ) (r : Role) (w v : List ℕ) (ps : List Piece) → joinTo at r w (joinTo i r v ps) ≡ joinTo at r (w ++ v) ps
+pub join-join : (at i : ℕ) (r : Role) (w v : List ℕ) (ps : List Piece) → joinTo at r w (joinTo i r v ps) ≡ joinTo at r (w ++ v) ps
 unfolding joinTo
 join-join at i r w v [] = rw (eq-eqb (roleNo r) (roleNo r) refl)
 join-join at i r w v (p ∷ ps) = go (eqb (roleNo r) (roleNo (p .role)))
@@ -43,7 +43,7 @@ join-join at i r w v (p ∷ ps) = go (eqb (roleNo r) (roleNo (p .role)))
     go false = rw own
 
 -- bytes of another role begin another piece
-join-apart : (at i : ℕ) (r s : Role) (w v : List ℕ) (ps : List Piece) → (roleNo r ≡ roleNo s → ⊥) → joinTo at r w (joinTo i s v ps) ≡ piece r at w ∷ joinTo i s v ps
+pub join-apart : (at i : ℕ) (r s : Role) (w v : List ℕ) (ps : List Piece) → (roleNo r ≡ roleNo s → ⊥) → joinTo at r w (joinTo i s v ps) ≡ piece r at w ∷ joinTo i s v ps
 unfolding joinTo
 join-apart at i r s w v [] n = rw (ne-eqb (roleNo r) (roleNo s) n)
 join-apart at i r s w v (p ∷ ps) n = go (eqb (roleNo s) (roleNo (p .role)))

@@ -27,7 +27,7 @@ use Rattle.script.proofs.Taking.{renamed, named, bounded, claused}
 use Rattle.script.proofs.Accepting.{lentOf, said-atom, said-clause, said-no-clause, Counted, Good, threes, begins, unless-going, piece-good, first-read, read-whole}
 
 -- a word among the names keeps its event where names are added after them: the first of them that it is stays the first
-event-kept : (names more : List (List ℕ)) (w : List ℕ) → eventOf names w < length names → eventOf (names ++ more) w ≡ eventOf names w
+pub event-kept : (names more : List (List ℕ)) (w : List ℕ) → eventOf names w < length names → eventOf (names ++ more) w ≡ eventOf names w
 unfolding eventOf
 event-kept [] more w h = absurd (omega arith)
 event-kept (n ∷ names) more w h = go (sameWord n w) h (λ l. event-kept names more w l)

@@ -5,7 +5,7 @@ use mathlib.Core.Path.{_≡_}
 use native.Mathlib.Omega.{arith}
 use lib.IntN.{ℤ, pos, negsuc, natAbs}
 use lib.ListN.{length, length-append}
-use Rattle.meaning.specs.Limits.{mostEvents, mostClauses, mostAlternatives, mostBound}
+use Rattle.meaning.specs.Limits.{mostEvents, mostBound}
 use Rattle.meaning.specs.Problem.{Alternative, Clause}
 use Rattle.meaning.specs.Screen.{Lent, clausesOf, problemRefusal}
 use Rattle.meaning.proofs.Settling.{Each, In}

@@ -12,3 +12,10 @@ pub mod Parting
 pub mod Putting
 pub mod Lengths
 pub mod Leaving
+pub mod Strokes
+pub mod Lines
+pub mod Naming
+pub mod Regaining
+pub mod Rereading
+pub mod Rewriting
+pub mod Texts

@@ -5,7 +5,6 @@ use borrow.Author.Needs.{needs}
 use lib.IntN.{natAbs}
 use mathlib.Core.List.{_++_}
 use Rattle.dialogue.proofs.Buffers.{after}
-use Rattle.dialogue.specs.Written.{written, writtenTo}
 use Rattle.grammar.specs.Grammar.{bytes}
 use Rattle.script.specs.Text.{nameOf, boundText, atomOf}
 use Rattle.script.proofs.text.put_atom.Statement.{statement}

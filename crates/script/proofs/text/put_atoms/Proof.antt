@@ -13,7 +13,7 @@ use Rattle.dialogue.specs.Written.{written, writtenTo, led}
 use Rattle.dialogue.proofs.Buffers.{led-written, led-to, led-end, led-end-to}
 use Rattle.meaning.specs.Plain.{nowhere}
 use Rattle.meaning.specs.Screen.{alternatives}
-use Rattle.problem.proofs.Triples.{alternativeAt, alternative-at}
+use Rattle.problem.proofs.Triples.{alternative-at}
 use Rattle.meaning.proofs.Accepted.{alternatives-count}
 use Rattle.script.specs.Text.{atomText}
 use Rattle.script.proofs.text.put_atoms.Statement.{statement}

@@ -1,5 +1,5 @@
 -- `put_declaration` meets its contract: one text after another. Assumes nothing.
-use mathlib.Core.List.{[], _∷_, _++_}
+use mathlib.Core.List.{_++_}
 use borrow.Author.Needs.{needs}
 use Rattle.grammar.specs.Grammar.{bytes}
 use Rattle.dialogue.proofs.Buffers.{after}

@@ -1,5 +1,5 @@
 -- `put_declarations` meets its contract: writing the declarations that remain gives the same buffer. Assumes nothing.
-use mathlib.Core.Path.{_≡_, refl, sym, ap, _∙_}
+use mathlib.Core.Path.{_≡_, refl, sym, _∙_}
 use Prim.Native.Nat.{_+_, _≤_, _-_}
 use borrow.Author.Needs.{needs}
 use lib.ListN.{length}

@@ -52,66 +52,69 @@ finished = afterAll (bytes "(check-sat)\n") lines
 abbrev pub declaring : List Stroke
 declaring = name newName (bytes " () Int") ∷ single declarationEnd 41 (bytes "\n") ∷ []
 
-abbrev pub asserted : List Stroke
-asserted = single assertEnd 41 (bytes "\n") ∷ []
+abbrev pub asserting : List Stroke
+asserting = single assertEnd 41 (bytes "\n") ∷ []
 
-abbrev pub checked : List Stroke
-checked = single checkEnd 41 (bytes "\n") ∷ []
+abbrev pub checking : List Stroke
+checking = single checkEnd 41 (bytes "\n") ∷ []
 
-abbrev pub named : List Stroke
-named = name firstName (bytes " ") ∷ name secondName (bytes ") ") ∷ []
-
-abbrev pub bounded : Stroke → List Stroke
-bounded k = k ∷ []
+abbrev pub naming : List Stroke
+naming = name firstName (bytes " ") ∷ name secondName (bytes ") ") ∷ []
 
 -- an atom leads from g to h: its names, and a bound of each kind
 pub record Atom (g h : Grammar) : Type 0 where
   pub opens : T (plainly (bytes "(<= (- ") g)
-  pub names : T (goes named (afterAll (bytes "(<= (- ") g) (bounding g))
-  pub at-zero : T (goes (bounded (single boundDigit 48 (bytes ")"))) (bounding g) h)
-  pub above-zero : T (goes (bounded (numeral boundDigit (bytes ")"))) (bounding g) h)
+  pub names : T (goes naming (afterAll (bytes "(<= (- ") g) (bounding g))
+  pub at-zero : T (goes (single boundDigit 48 (bytes ")") ∷ []) (bounding g) h)
+  pub above-zero : T (goes (numeral boundDigit (bytes ")") ∷ []) (bounding g) h)
   pub minus : T (plainly (bytes "(- ") (bounding g))
-  pub below-zero : T (goes (bounded (numeral negatedDigit (bytes "))"))) (afterAll (bytes "(- ") (bounding g)) h)
+  pub below-zero : T (goes (numeral negatedDigit (bytes "))") ∷ []) (afterAll (bytes "(- ") (bounding g)) h)
 
--- all other lines
+-- the lines, and what an assert may hold
 pub record Lines : Type 0 where
   pub begins : T (plainly (bytes "(set-logic QF_IDL)\n") script)
   pub declares : T (plainly (bytes "(declare-fun ") lines)
   pub declared : T (goes declaring (afterAll (bytes "(declare-fun ") lines) lines)
   pub opens : T (plainly (bytes "(assert ") lines)
-  pub empty : T (plainly (bytes "false") opened)
-  pub closes : T (goes asserted closed lines)
+  pub closes : T (goes asserting closed lines)
   pub checks : T (plainly (bytes "(check-sat") lines)
-  pub ended : T (goes checked (afterAll (bytes "(check-sat") lines) finished)
+  pub ended : T (goes checking (afterAll (bytes "(check-sat") lines) finished)
   pub ends-there : T (ends finished)
+  pub empty : T (plainly (bytes "false") opened)
+  pub alone : Atom opened closed
+  pub or-opens : T (plainly (bytes "(or") opened)
+  pub or-leads : (k : ℕ) → k < 4 → T (plainly (bytes " ") (inOr k)) × Atom (afterAll (bytes " ") (inOr k)) (inOr (suc k))
+  pub or-closes : (k : ℕ) → k < 3 → T (plainly (bytes ")") (inOr (suc (suc k)))) × (afterAll (bytes ")") (inOr (suc (suc k))) ≡ closed)
 
 -- ---- the tests
 pub lines-lead : Lines
 unfolding afterAll plainly marks takes goes lines opened closed inOr bounding finished by-number both kept same kindNo bytes among isA roleNo spelled blank gap parting opening closingAs symbolAs numeralAs bound difference atom optional held declared command setLogic checkSat script ends live follow isNone choose after roleOf
-lines-lead = record { begins = tt; declares = tt; declared = tt; opens = tt; empty = tt; closes = tt; checks = tt; ended = tt; ends-there = tt }
+lines-lead =
+    record {
+      begins = tt;
+      declares = tt;
+      declared = tt;
+      opens = tt;
+      closes = tt;
+      checks = tt;
+      ended = tt;
+      ends-there = tt;
+      empty = tt;
+      alone = record { opens = tt; names = tt; at-zero = tt; above-zero = tt; minus = tt; below-zero = tt };
+      or-opens = tt;
+      or-leads = up-to-four;
+      or-closes = from-two;
+    }
+  where
+    up-to-four : (k : ℕ) → k < 4 → T (plainly (bytes " ") (inOr k)) × Atom (afterAll (bytes " ") (inOr k)) (inOr (suc k))
+    up-to-four zero h = (tt, record { opens = tt; names = tt; at-zero = tt; above-zero = tt; minus = tt; below-zero = tt })
+    up-to-four (suc zero) h = (tt, record { opens = tt; names = tt; at-zero = tt; above-zero = tt; minus = tt; below-zero = tt })
+    up-to-four (suc (suc zero)) h = (tt, record { opens = tt; names = tt; at-zero = tt; above-zero = tt; minus = tt; below-zero = tt })
+    up-to-four (suc (suc (suc zero))) h = (tt, record { opens = tt; names = tt; at-zero = tt; above-zero = tt; minus = tt; below-zero = tt })
+    up-to-four (suc (suc (suc (suc k)))) h = absurd (omega arith)
 
--- an atom that stands alone
-pub alone-leads : Atom opened closed
-unfolding afterAll plainly marks takes goes lines opened closed inOr bounding finished by-number both kept same kindNo bytes among isA roleNo spelled blank gap parting opening closingAs symbolAs numeralAs bound difference atom optional held declared command setLogic checkSat script ends live follow isNone choose after roleOf
-alone-leads = record { opens = tt; names = tt; at-zero = tt; above-zero = tt; minus = tt; below-zero = tt }
-
--- up to four, each led by a space
-pub or-opens : T (plainly (bytes "(or") opened)
-unfolding afterAll plainly marks takes goes lines opened closed inOr bounding finished by-number both kept same kindNo bytes among isA roleNo spelled blank gap parting opening closingAs symbolAs numeralAs bound difference atom optional held declared command setLogic checkSat script ends live follow isNone choose after roleOf
-or-opens = tt
-
-pub or-leads : (k : ℕ) → k < 4 → T (plainly (bytes " ") (inOr k)) × Atom (afterAll (bytes " ") (inOr k)) (inOr (suc k))
-unfolding afterAll plainly marks takes goes lines opened closed inOr bounding finished by-number both kept same kindNo bytes among isA roleNo spelled blank gap parting opening closingAs symbolAs numeralAs bound difference atom optional held declared command setLogic checkSat script ends live follow isNone choose after roleOf
-or-leads zero h = (tt, record { opens = tt; names = tt; at-zero = tt; above-zero = tt; minus = tt; below-zero = tt })
-or-leads (suc zero) h = (tt, record { opens = tt; names = tt; at-zero = tt; above-zero = tt; minus = tt; below-zero = tt })
-or-leads (suc (suc zero)) h = (tt, record { opens = tt; names = tt; at-zero = tt; above-zero = tt; minus = tt; below-zero = tt })
-or-leads (suc (suc (suc zero))) h = (tt, record { opens = tt; names = tt; at-zero = tt; above-zero = tt; minus = tt; below-zero = tt })
-or-leads (suc (suc (suc (suc k)))) h = absurd (omega arith)
-
--- after two of them at the least it may close
-pub or-closes : (k : ℕ) → k < 3 → T (plainly (bytes ")") (inOr (suc (suc k)))) × (afterAll (bytes ")") (inOr (suc (suc k))) ≡ closed)
-unfolding afterAll plainly marks takes goes lines opened closed inOr bounding finished by-number both kept same kindNo bytes among isA roleNo spelled blank gap parting opening closingAs symbolAs numeralAs bound difference atom optional held declared command setLogic checkSat script ends live follow isNone choose after roleOf
-or-closes zero h = (tt, refl)
-or-closes (suc zero) h = (tt, refl)
-or-closes (suc (suc zero)) h = (tt, refl)
-or-closes (suc (suc (suc k))) h = absurd (omega arith)
+    from-two : (k : ℕ) → k < 3 → T (plainly (bytes ")") (inOr (suc (suc k)))) × (afterAll (bytes ")") (inOr (suc (suc k))) ≡ closed)
+    from-two zero h = (tt, refl)
+    from-two (suc zero) h = (tt, refl)
+    from-two (suc (suc zero)) h = (tt, refl)
+    from-two (suc (suc (suc k))) h = absurd (omega arith)

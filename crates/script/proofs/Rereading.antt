@@ -27,8 +27,7 @@ use Rattle.script.specs.Text.{nameOf, declarationOf, declarationsFrom, b
 use Rattle.script.proofs.Taking.{renamed, new-taken, event-taken, named, name-taken, bounded, bound-taken, claused, clause-taken}
 use Rattle.script.proofs.Accepting.{lentOf}
 use Rattle.script.proofs.Strokes.{answerFrom, Leads, nowhere-led, led-on, plainly, plain-led, led-by}
-use Rattle.script.proofs.Lines.{numeral, single, lines, opened, closed, inOr, bounding, finished, declaring, asserted, checked, Atom, lines-lead, alone-leads, or-opens, or-leads, or-closes}
-use Rattle.script.proofs.Lines as line
+use Rattle.script.proofs.Lines.{numeral, single, lines, opened, closed, inOr, bounding, finished, declaring, asserting, checking, naming, Atom, lines-lead}
 use Rattle.script.proofs.Naming.{name-word, numeral-word, single-word, zero-is, namesUpTo, names-many, event-found, name-new}
 use Rattle.script.proofs.Regaining.{triplesOf, triplesIn, countsFrom, triples-again, counts-again}
 
@@ -43,6 +42,16 @@ pub record Gives (g : Grammar) (R : Read) (w : List ℕ) (h : Grammar) (n : ℕ)
   pub end : Read
   pub leads : Leads g R w h end
   pub having : Having n triples counts end
+
+-- one text after another
+given-on : {g h k : Grammar} {R : Read} {n m : ℕ} {ts us : List ℤ} {cs ds : List ℕ} (v w : List ℕ) → Gives g R v h n ts cs → ((S : Read) → Having n ts cs S → Gives h S w k m us ds) → Gives g R (v ++ w) k m us ds
+given-on v w a f =
+    let b = f (a .end) (a .having) in
+    record { end = b .end; leads = led-on v w (a .leads) (b .leads); having = b .having }
+
+-- bytes of no effect
+given-plain : {R : Read} {n : ℕ} {ts : List ℤ} {cs : List ℕ} (w : List ℕ) (g : Grammar) → T (plainly w g) → Having n ts cs R → Gives g R w (afterAll w g) n ts cs
+given-plain {R} w g t had = record { end = R; leads = plain-led w g R t; having = had }
 
 -- ---- declarations
 module _ (e : ℕ) (below : e < mostEvents) (R : Read) (triples : List ℤ) (counts : List ℕ) (had : Having e triples counts R) where
@@ -62,16 +71,6 @@ module _ (e : ℕ) (below : e < mostEvents) (R : Read) (triples : List ℤ) (cou
             (nowhere-led lines (named (renamed R w))));
         having = record { names-are = ap (λ (l : List (List ℕ)). l ++ (w ∷ [])) (had .names-are); triples-are = had .triples-are; counts-are = had .counts-are };
       }
-
--- one text after another
-given-on : {g h k : Grammar} {R : Read} {n m : ℕ} {ts us : List ℤ} {cs ds : List ℕ} (v w : List ℕ) → Gives g R v h n ts cs → ((S : Read) → Having n ts cs S → Gives h S w k m us ds) → Gives g R (v ++ w) k m us ds
-given-on v w a f =
-    let b = f (a .end) (a .having) in
-    record { end = b .end; leads = led-on v w (a .leads) (b .leads); having = b .having }
-
--- bytes of no effect
-given-plain : {R : Read} {n : ℕ} {ts : List ℤ} {cs : List ℕ} (w : List ℕ) (g : Grammar) → T (plainly w g) → Having n ts cs R → Gives g R w (afterAll w g) n ts cs
-given-plain {R} w g t had = record { end = R; leads = plain-led w g R t; having = had }
 
 declarations-given : (k e : ℕ) → e + k ≤ mostEvents → (R : Read) (ts : List ℤ) (cs : List ℕ) → Having e ts cs R → Gives lines R (declarationsFrom e k) lines (e + k) ts cs
 unfolding declarationsFrom
@@ -97,7 +96,7 @@ module _ (n : ℕ) (few : n ≤ mostEvents) (ts : List ℤ) (cs : List ℕ) wher
           end = bounded R false 0;
           leads =
               rw zero-is
-              (led-by (line.bounded (single boundDigit 48 (bytes ")"))) ((48 ∷ []) ∷ []) [] (a .at-zero)
+              (led-by (single boundDigit 48 (bytes ")") ∷ []) ((48 ∷ []) ∷ []) [] (a .at-zero)
               (bounded R false 0, single-word boundDigit 48 (bytes ")"), (λ from. bound-taken R false 0 _ (rw (← zero-is) (reads-back mostBound 0 (omega arith) (omega arith)))), refl)
               (nowhere-led h (bounded R false 0)));
           having = with-bound false 0;
@@ -106,7 +105,7 @@ module _ (n : ℕ) (few : n ≤ mostEvents) (ts : List ℤ) (cs : List ℕ) wher
         record {
           end = bounded R false (suc v);
           leads =
-              led-by (line.bounded (numeral boundDigit (bytes ")"))) (decimal (suc v) ∷ []) [] (a .above-zero)
+              led-by (numeral boundDigit (bytes ")") ∷ []) (decimal (suc v) ∷ []) [] (a .above-zero)
               (bounded R false (suc v), numeral-word boundDigit (bytes ")") (suc v) (omega arith) (omega arith), (λ from. bound-taken R false (suc v) _ (reads-back mostBound (suc v) k (omega arith))), refl)
               (nowhere-led h (bounded R false (suc v)));
           having = with-bound false (suc v);
@@ -117,7 +116,7 @@ module _ (n : ℕ) (few : n ≤ mostEvents) (ts : List ℤ) (cs : List ℕ) wher
           leads =
               rw (append-assoc (decimal (suc v)) (bytes ")") (bytes ")"))
               (led-on (bytes "(- ") (decimal (suc v) ++ bytes "))") (plain-led (bytes "(- ") (bounding g) R (a .minus))
-              (led-by (line.bounded (numeral negatedDigit (bytes "))"))) (decimal (suc v) ∷ []) [] (a .below-zero)
+              (led-by (numeral negatedDigit (bytes "))") ∷ []) (decimal (suc v) ∷ []) [] (a .below-zero)
               (bounded R true (suc v), numeral-word negatedDigit (bytes "))") (suc v) (omega arith) (omega arith), (λ from. bound-taken R true (suc v) _ (reads-back mostBound (suc v) k (omega arith))), refl)
               (nowhere-led h (bounded R true (suc v)))));
           having = with-bound true (suc v);
@@ -139,7 +138,7 @@ module _ (n : ℕ) (few : n ≤ mostEvents) (ts : List ℤ) (cs : List ℕ) wher
         end = b .end;
         leads =
             led-on (bytes "(<= (- ") (x ++ (bytes " " ++ (y ++ (bytes ") " ++ (boundText (a .c) ++ bytes ")"))))) (plain-led (bytes "(<= (- ") g R (ways .opens))
-            (led-by line.named (x ∷ y ∷ []) (boundText (a .c) ++ bytes ")") (ways .names) (
+            (led-by naming (x ∷ y ∷ []) (boundText (a .c) ++ bytes ")") (ways .names) (
               P,
               name-word firstName (bytes " ") (a .x) (omega arith),
               (λ from. event-taken R from x false (omega (arith, i .0))),
@@ -156,7 +155,7 @@ module _ (n : ℕ) (few : n ≤ mostEvents) (cs : List ℕ) where
   unfolding led bytes
   atoms-given [] k m e l i b ts R had = let is : m ≡ k = omega arith in rw (is, append-nil ts) (record { end = R; leads = nowhere-led (inOr k) R; having = had })
   atoms-given (a ∷ c) k m e l i b ts R had =
-      let ways = or-leads k (omega arith) in
+      let ways = lines-lead .or-leads k (omega arith) in
       let one = pos (a .x) ∷ pos (a .y) ∷ a .c ∷ [] in
       rw (← (append-assoc ts one (triplesOf c)))
       (given-on (bytes " ") (atomText a ++ led (map atomText c)) (given-plain (bytes " ") (inOr k) (ways .0) had)
@@ -167,12 +166,12 @@ module _ (n : ℕ) (few : n ≤ mostEvents) (cs : List ℕ) where
   held-given : (c : Clause) → length c ≤ mostInClause → Each (In n) c → Each Bounded c → (ts : List ℤ) (R : Read) → Having n ts cs R → Gives opened R (heldText (map atomText c)) closed n (ts ++ triplesOf c) cs
   unfolding heldText closed inOr
   held-given [] l i b ts R had = rw (append-nil ts) (given-plain (bytes "false") opened (lines-lead .empty) had)
-  held-given (a ∷ []) l i b ts R had = atom-given n few ts cs a (i .0) (b .0) opened closed alone-leads R had
+  held-given (a ∷ []) l i b ts R had = atom-given n few ts cs a (i .0) (b .0) opened closed (lines-lead .alone) R had
   held-given (a ∷ (d ∷ c)) l i b ts R had =
       let all = a ∷ d ∷ c in
-      let ends-so = or-closes (length c) (omega arith) in
+      let ends-so = lines-lead .or-closes (length c) (omega arith) in
       rw (← (ends-so .1))
-      (given-on (bytes "(or") (led (map atomText all) ++ bytes ")") (given-plain (bytes "(or") opened or-opens had)
+      (given-on (bytes "(or") (led (map atomText all) ++ bytes ")") (given-plain (bytes "(or") opened (lines-lead .or-opens) had)
       (λ S got. given-on (led (map atomText all)) (bytes ")") (atoms-given all 0 (suc (suc (length c))) (omega arith) l i b ts S got)
       (λ Q have. given-plain (bytes ")") (inOr (suc (suc (length c)))) (ends-so .0) have)))
 
@@ -188,7 +187,7 @@ module _ (n : ℕ) (few : n ≤ mostEvents) (cs : List ℕ) where
           record {
             end = claused Q;
             leads =
-                led-by asserted ((41 ∷ []) ∷ []) [] (lines-lead .closes)
+                led-by asserting ((41 ∷ []) ∷ []) [] (lines-lead .closes)
                 (claused Q, single-word assertEnd 41 (bytes "\n"), (λ from. clause-taken Q (rw (have .counts-are) less) (rw (have .triples-are) most)), refl)
                 (nowhere-led lines (claused Q));
             having = record { names-are = have .names-are; triples-are = have .triples-are; counts-are = rw (have .counts-are, have .triples-are) };
@@ -244,13 +243,15 @@ module _ (l : Lent) (taken : problemRefusal l ≡ 0) where
             end = Q;
             leads =
                 led-on (bytes "(check-sat") (bytes ")\n") (plain-led (bytes "(check-sat") lines Q (lines-lead .checks))
-                (led-by checked ((41 ∷ []) ∷ []) [] (lines-lead .ended)
+                (led-by checking ((41 ∷ []) ∷ []) [] (lines-lead .ended)
                 (Q, single-word checkEnd 41 (bytes "\n"), (λ from. rw (le-leb 1 (length (Q .names)) (rw (have .names-are, names-many (l .n)) some))), refl)
                 (nowhere-led finished Q));
             having = have;
           }
 
-  -- "reading it gives the same problem": what is read of the text is the problem
+  -- "Reading it gives the same problem." The first line leaves nothing read; each declaration adds its name; each assert the triples of its clause
+  -- and then the count of all so far. So after the last line the triples and counts are those of the clauses, one after the other, and these are the
+  -- problem's own (`Regaining`); the text may end there.
   pub text-answered : (R : Read) × (answerAt (textOf l) 0 ≡ going R) × (lentOf R ≡ l)
   unfolding answerAt answerFrom
   text-answered =

@@ -8,7 +8,7 @@ use Rattle.meaning.specs.Screen.{alternatives, parted, clausesOf}
 use Rattle.meaning.proofs.Days.{lent, alt, minus, d1, d2}
 use Rattle.dialogue.specs.Written.{decimalIn, led}
 use Rattle.grammar.specs.Grammar.{bytes}
-use Rattle.script.specs.Text.{nameOf, declarationOf, declarationsFrom, boundText, atomOf, heldText, assertOf, assertsOf, textOf}
+use Rattle.script.specs.Text.{nameOf, declarationOf, declarationsFrom, boundText, atomOf, heldText, assertOf, assertsOf, textOf, longestText}
 use Rattle.script.proofs.Answers.{script-of-d1}
 
 -- "D1 gives exactly these lines, each ended by a line feed"
@@ -35,3 +35,7 @@ worked-texts = refl
 last-name : nameOf (mostEvents - 1) ≡ bytes "e23"
 unfolding nameOf decimalIn bytes
 last-name = refl
+
+-- the room that is always enough, as the README has it
+longest-is : longestText ≡ 2903
+longest-is = refl

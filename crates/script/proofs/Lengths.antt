@@ -13,7 +13,7 @@ use Rattle.meaning.proofs.Accepted.{Every, Bounded, sizes, accepted}
 use Rattle.dialogue.specs.Written.{decimal, led}
 use Rattle.dialogue.proofs.Decimals.{short-decimal}
 use Rattle.grammar.specs.Grammar.{bytes}
-use Rattle.script.specs.Text.{nameOf, declarationOf, declarationsFrom, boundText, atomOf, atomText, heldText, assertOf, assertsOf, textOf, longestText}
+use Rattle.script.specs.Text.{nameOf, declarationOf, declarationsFrom, boundOf, atomOf, atomText, heldOf, assertOf, assertsOf, textOf, longestText}
 
 pub name-length : (e : ℕ) → e < mostEvents → length (nameOf e) ≤ 3
 unfolding nameOf bytes
@@ -26,8 +26,8 @@ declarations-length e (suc k) h =
     let one : length (declarationOf e) ≤ 25 = omega (arith, name-length e (omega arith), length-append (nameOf e) (bytes " () Int)\n")) in
     omega (arith, length-append (declarationOf e) (declarationsFrom (suc e) k), declarations-length (suc e) k (omega arith))
 
-bound-length : (c : ℤ) → natAbs c ≤ mostBound → length (boundText c) ≤ 10
-unfolding boundText bytes
+bound-length : (c : ℤ) → natAbs c ≤ mostBound → length (boundOf c) ≤ 10
+unfolding boundOf bytes
 bound-length (pos v) h = omega (arith, short-decimal 20 5 v (omega arith))
 bound-length (negsuc v) h = omega (arith, short-decimal 20 5 (suc v) (omega arith), length-append (decimal (suc v)) (bytes ")"))
 
@@ -38,7 +38,7 @@ module _ (n : ℕ) (most : n ≤ mostEvents) where
   atom-length a i k =
       let x = nameOf (a .x) in
       let y = nameOf (a .y) in
-      let c = boundText (a .c) in
+      let c = boundOf (a .c) in
       omega (
         arith,
         name-length (a .x) (omega arith),
@@ -54,8 +54,8 @@ module _ (n : ℕ) (most : n ≤ mostEvents) where
   led-length [] i k = omega arith
   led-length (a ∷ c) i k = omega (arith, atom-length a (i .0) (k .0), led-length c (i .1) (k .1), length-append (atomText a) (led (map atomText c)))
 
-  held-length : (c : Clause) → Each (In n) c → Each Bounded c → length (heldText (map atomText c)) ≤ 5 + 28 * length c
-  unfolding heldText bytes
+  held-length : (c : Clause) → Each (In n) c → Each Bounded c → length (heldOf (map atomText c)) ≤ 5 + 28 * length c
+  unfolding heldOf bytes
   held-length [] i k = omega arith
   held-length (a ∷ []) i k = omega (arith, atom-length a (i .0) (k .0))
   held-length (a ∷ (b ∷ c)) i k = omega (arith, led-length (a ∷ b ∷ c) i k, length-append (led (map atomText (a ∷ b ∷ c))) (bytes ")"))
@@ -64,7 +64,7 @@ module _ (n : ℕ) (most : n ≤ mostEvents) where
   unfolding assertsOf assertOf sizes bytes
   asserts-length [] i k = omega arith
   asserts-length (c ∷ cs) i k =
-      let one : length (assertOf c) ≤ 15 + 28 * length c = omega (arith, held-length c (i .0) (k .0), length-append (heldText (map atomText c)) (bytes ")\n")) in
+      let one : length (assertOf c) ≤ 15 + 28 * length c = omega (arith, held-length c (i .0) (k .0), length-append (heldOf (map atomText c)) (bytes ")\n")) in
       omega (arith, asserts-length cs (i .1) (k .1), length-append (assertOf c) (assertsOf cs))
 
 pub text-length : (l : Lent) → problemRefusal l ≡ 0 → length (textOf l) ≤ longestText

@@ -18,17 +18,17 @@ use Rattle.meaning.proofs.Accepted.{first-count}
 use Rattle.problem.proofs.Counts.{count-under}
 use Rattle.dialogue.specs.Written.{decimal, led}
 use Rattle.grammar.specs.Grammar.{bytes}
-use Rattle.script.specs.Text.{declarationOf, declarationsFrom, boundText, atomText, heldText, assertOf, assertsOf}
+use Rattle.script.specs.Text.{declarationOf, declarationsFrom, boundOf, atomText, heldOf, assertOf, assertsOf}
 use Rattle.script.proofs.Parting.{take-alternatives, drop-alternatives, atoms-alike}
 
 -- ---- a bound, by its sign
-pub bound-below : (z : ℤ) → ltZ z (pos 0) ≡ true → boundText z ≡ bytes "(- " ++ (decimal (natAbs z) ++ bytes ")")
-unfolding boundText
+pub bound-below : (z : ℤ) → ltZ z (pos 0) ≡ true → boundOf z ≡ bytes "(- " ++ (decimal (natAbs z) ++ bytes ")")
+unfolding boundOf
 bound-below (pos n) e = absurd (omega (arith, ltb-true n 0 e))
 bound-below (negsuc n) e = refl
 
-pub bound-else : (z : ℤ) → ltZ z (pos 0) ≡ false → boundText z ≡ decimal (natAbs z)
-unfolding boundText
+pub bound-else : (z : ℤ) → ltZ z (pos 0) ≡ false → boundOf z ≡ decimal (natAbs z)
+unfolding boundOf
 bound-else (pos n) e = refl
 bound-else (negsuc n) e = cc
 
@@ -44,19 +44,19 @@ unfolding declarationsFrom
 declarations-off e n h = let none-left : n - e ≡ 0 = omega arith in rw none-left
 
 -- ---- what an assert holds, by how many alternatives there are
-pub held-none : (c : Clause) → length c ≡ 0 → heldText (map atomText c) ≡ bytes "false"
-unfolding heldText
+pub held-none : (c : Clause) → length c ≡ 0 → heldOf (map atomText c) ≡ bytes "false"
+unfolding heldOf
 held-none [] e = refl
 held-none (a ∷ c) e = absurd (omega arith)
 
-pub held-one : (c : Clause) → length c ≡ 1 → heldText (map atomText c) ≡ atomText (getD c 0 nowhere)
-unfolding heldText
+pub held-one : (c : Clause) → length c ≡ 1 → heldOf (map atomText c) ≡ atomText (getD c 0 nowhere)
+unfolding heldOf
 held-one [] e = absurd (omega arith)
 held-one (a ∷ []) e = refl
 held-one (a ∷ (b ∷ c)) e = absurd (omega arith)
 
-pub held-more : (c : Clause) → 1 < length c → heldText (map atomText c) ≡ bytes "(or" ++ (led (map atomText c) ++ bytes ")")
-unfolding heldText
+pub held-more : (c : Clause) → 1 < length c → heldOf (map atomText c) ≡ bytes "(or" ++ (led (map atomText c) ++ bytes ")")
+unfolding heldOf
 held-more [] h = absurd (omega arith)
 held-more (a ∷ []) h = absurd (omega arith)
 held-more (a ∷ (b ∷ c)) h = refl

@@ -23,7 +23,7 @@ use Rattle.grammar.specs.Pieces.{pieces}
 use Rattle.grammar.proofs.Places.{afterAll}
 use Rattle.script.specs.Words.{eventOf}
 use Rattle.script.specs.Reading.{Read, going, signed, found, withCheck, readPiece, readAll, settled, nothingRead, answerAt}
-use Rattle.script.specs.Text.{nameOf, declarationOf, declarationsFrom, boundText, atomOf, atomText, heldText, assertOf, assertsOf, textOf}
+use Rattle.script.specs.Text.{nameOf, declarationOf, declarationsFrom, boundOf, atomOf, atomText, heldOf, assertOf, assertsOf, textOf}
 use Rattle.script.proofs.Taking.{renamed, new-taken, event-taken, named, name-taken, bounded, bound-taken, claused, clause-taken}
 use Rattle.script.proofs.Accepting.{lentOf}
 use Rattle.script.proofs.Strokes.{answerFrom, Leads, nowhere-led, led-on, plainly, plain-led, led-by}
@@ -89,8 +89,8 @@ module _ (n : ℕ) (few : n ≤ mostEvents) (ts : List ℤ) (cs : List ℕ) wher
     with-bound : (negated : Bool) (v : ℕ) → Having n (ts ++ (pos x ∷ pos y ∷ signed negated v ∷ [])) cs (bounded R negated v)
     with-bound negated v = record { names-are = had .names-are; triples-are = rw (had .triples-are, x-is, y-is); counts-are = had .counts-are }
 
-    bound-given : (g : Grammar) → Atom g h → (c : ℤ) → natAbs c ≤ mostBound → Gives (bounding g) R (boundText c ++ bytes ")") h n (ts ++ (pos x ∷ pos y ∷ c ∷ [])) cs
-    unfolding boundText bytes readPiece
+    bound-given : (g : Grammar) → Atom g h → (c : ℤ) → natAbs c ≤ mostBound → Gives (bounding g) R (boundOf c ++ bytes ")") h n (ts ++ (pos x ∷ pos y ∷ c ∷ [])) cs
+    unfolding boundOf bytes readPiece
     bound-given g a (pos zero) k =
         record {
           end = bounded R false 0;
@@ -137,8 +137,8 @@ module _ (n : ℕ) (few : n ≤ mostEvents) (ts : List ℤ) (cs : List ℕ) wher
       record {
         end = b .end;
         leads =
-            led-on (bytes "(<= (- ") (x ++ (bytes " " ++ (y ++ (bytes ") " ++ (boundText (a .c) ++ bytes ")"))))) (plain-led (bytes "(<= (- ") g R (ways .opens))
-            (led-by naming (x ∷ y ∷ []) (boundText (a .c) ++ bytes ")") (ways .names) (
+            led-on (bytes "(<= (- ") (x ++ (bytes " " ++ (y ++ (bytes ") " ++ (boundOf (a .c) ++ bytes ")"))))) (plain-led (bytes "(<= (- ") g R (ways .opens))
+            (led-by naming (x ∷ y ∷ []) (boundOf (a .c) ++ bytes ")") (ways .names) (
               P,
               name-word firstName (bytes " ") (a .x) (omega arith),
               (λ from. event-taken R from x false (omega (arith, i .0))),
@@ -163,8 +163,8 @@ module _ (n : ℕ) (few : n ≤ mostEvents) (cs : List ℕ) where
       (λ Q have. atoms-given c (suc k) m (omega arith) l (i .1) (b .1) (ts ++ one) Q have)))
 
   -- what an assert holds
-  held-given : (c : Clause) → length c ≤ mostInClause → Each (In n) c → Each Bounded c → (ts : List ℤ) (R : Read) → Having n ts cs R → Gives opened R (heldText (map atomText c)) closed n (ts ++ triplesOf c) cs
-  unfolding heldText closed inOr
+  held-given : (c : Clause) → length c ≤ mostInClause → Each (In n) c → Each Bounded c → (ts : List ℤ) (R : Read) → Having n ts cs R → Gives opened R (heldOf (map atomText c)) closed n (ts ++ triplesOf c) cs
+  unfolding heldOf closed inOr
   held-given [] l i b ts R had = rw (append-nil ts) (given-plain (bytes "false") opened (lines-lead .empty) had)
   held-given (a ∷ []) l i b ts R had = atom-given n few ts cs a (i .0) (b .0) opened closed (lines-lead .alone) R had
   held-given (a ∷ (d ∷ c)) l i b ts R had =
@@ -179,8 +179,8 @@ module _ (n : ℕ) (few : n ≤ mostEvents) (cs : List ℕ) where
   assert-given : (c : Clause) → length c ≤ mostInClause → Each (In n) c → Each Bounded c → (ts : List ℤ) → length cs < mostClauses → length (ts ++ triplesOf c) ≤ 3 * mostAlternatives → (R : Read) → Having n ts cs R → Gives lines R (assertOf c) lines n (ts ++ triplesOf c) (cs ++ (length (ts ++ triplesOf c) / 3 ∷ []))
   unfolding assertOf opened bytes readPiece
   assert-given c l i b ts less most R had =
-      given-on (bytes "(assert ") (heldText (map atomText c) ++ bytes ")\n") (given-plain (bytes "(assert ") lines (lines-lead .opens) had)
-      (λ S got. given-on (heldText (map atomText c)) (bytes ")\n") (held-given c l i b ts S got) (λ Q have. ended Q have))
+      given-on (bytes "(assert ") (heldOf (map atomText c) ++ bytes ")\n") (given-plain (bytes "(assert ") lines (lines-lead .opens) had)
+      (λ S got. given-on (heldOf (map atomText c)) (bytes ")\n") (held-given c l i b ts S got) (λ Q have. ended Q have))
     where
       ended : (Q : Read) → Having n (ts ++ triplesOf c) cs Q → Gives closed Q (bytes ")\n") lines n (ts ++ triplesOf c) (cs ++ (length (ts ++ triplesOf c) / 3 ∷ []))
       ended Q have =

@@ -8,12 +8,12 @@ use Rattle.meaning.specs.Screen.{alternatives, parted, clausesOf}
 use Rattle.meaning.proofs.Days.{lent, alt, minus, d1, d2}
 use Rattle.dialogue.specs.Written.{decimalIn, led}
 use Rattle.grammar.specs.Grammar.{bytes}
-use Rattle.script.specs.Text.{nameOf, declarationOf, declarationsFrom, boundText, atomOf, heldText, assertOf, assertsOf, textOf, longestText}
+use Rattle.script.specs.Text.{nameOf, declarationOf, declarationsFrom, boundOf, atomOf, heldOf, assertOf, assertsOf, textOf, longestText}
 use Rattle.script.proofs.Answers.{script-of-d1}
 
 -- "D1 gives exactly these lines, each ended by a line feed"
 d1-text : textOf d1 ≡ script-of-d1
-unfolding script-of-d1 textOf declarationsFrom declarationOf nameOf assertsOf assertOf heldText atomOf boundText led decimalIn bytes clausesOf parted alternatives
+unfolding script-of-d1 textOf declarationsFrom declarationOf nameOf assertsOf assertOf heldOf atomOf boundOf led decimalIn bytes clausesOf parted alternatives
 d1-text = refl
 
 -- two alternatives stand inside an or; so do four; 0, and bounds of either sign as far as they go; no clause; and an empty one
@@ -28,7 +28,7 @@ worked-texts :
     ∷ "(set-logic QF_IDL)\n(declare-fun e0 () Int)\n(declare-fun e1 () Int)\n(assert (or (<= (- e0 e1) 0) (<= (- e1 e0) 100000) (<= (- e0 e1) (- 100000)) (<= (- e1 e0) (- 1))))\n(check-sat)\n"
     ∷ "(set-logic QF_IDL)\n(declare-fun e0 () Int)\n(declare-fun e1 () Int)\n(declare-fun e2 () Int)\n(check-sat)\n"
     ∷ "(set-logic QF_IDL)\n(declare-fun e0 () Int)\n(assert false)\n(check-sat)\n" ∷ [])
-unfolding textOf declarationsFrom declarationOf nameOf assertsOf assertOf heldText atomOf boundText led decimalIn bytes clausesOf parted alternatives
+unfolding textOf declarationsFrom declarationOf nameOf assertsOf assertOf heldOf atomOf boundOf led decimalIn bytes clausesOf parted alternatives
 worked-texts = refl
 
 -- the last of as many events as there may be

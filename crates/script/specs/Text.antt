@@ -30,24 +30,24 @@ declarationsFrom e zero = []
 declarationsFrom e (suc more) = declarationOf e ++ declarationsFrom (suc e) more
 
 -- a bound: 4, 0, (- 30)
-unfoldable pub boundText : ℤ → List ℕ
-boundText (pos v) = decimal v
-boundText (negsuc v) = bytes "(- " ++ (decimal (suc v) ++ bytes ")")
+unfoldable pub boundOf : ℤ → List ℕ
+boundOf (pos v) = decimal v
+boundOf (negsuc v) = bytes "(- " ++ (decimal (suc v) ++ bytes ")")
 
 unfoldable pub atomOf : ℕ → ℕ → ℤ → List ℕ
-atomOf x y c = bytes "(<= (- " ++ (nameOf x ++ (bytes " " ++ (nameOf y ++ (bytes ") " ++ (boundText c ++ bytes ")")))))
+atomOf x y c = bytes "(<= (- " ++ (nameOf x ++ (bytes " " ++ (nameOf y ++ (bytes ") " ++ (boundOf c ++ bytes ")")))))
 
 abbrev pub atomText : Alternative → List ℕ
 atomText a = atomOf (a .x) (a .y) (a .c)
 
 -- the atoms of a clause: "an empty clause is (assert false)", one stands alone, "several alternatives are parted by single spaces inside (or ...)"
-unfoldable pub heldText : List (List ℕ) → List ℕ
-heldText [] = bytes "false"
-heldText (atom ∷ []) = atom
-heldText (atom ∷ (next ∷ more)) = bytes "(or" ++ (led (atom ∷ next ∷ more) ++ bytes ")")
+unfoldable pub heldOf : List (List ℕ) → List ℕ
+heldOf [] = bytes "false"
+heldOf (atom ∷ []) = atom
+heldOf (atom ∷ (next ∷ more)) = bytes "(or" ++ (led (atom ∷ next ∷ more) ++ bytes ")")
 
 unfoldable pub assertOf : Clause → List ℕ
-assertOf c = bytes "(assert " ++ (heldText (map atomText c) ++ bytes ")\n")
+assertOf c = bytes "(assert " ++ (heldOf (map atomText c) ++ bytes ")\n")
 
 unfoldable pub assertsOf : List Clause → List ℕ
 assertsOf [] = []

@@ -8,7 +8,7 @@ ghost use lib.ListN.{length};
 ghost use Rattle.meaning.specs.Screen.{alternatives, clausesOf, stepped};
 ghost use Rattle.problem.specs.Reads.{given};
 ghost use Rattle.dialogue.specs.Written.{written, writtenTo, led};
-ghost use Rattle.script.specs.Text.{nameOf, declarationOf, declarationsFrom, boundText, atomOf, atomText, heldText, assertOf, assertsOf, textOf};
+ghost use Rattle.script.specs.Text.{nameOf, declarationOf, declarationsFrom, boundOf, atomOf, atomText, heldOf, assertOf, assertsOf, textOf};
 use dialogue::put;
 use dialogue::put_number;
 use dialogue::size;
@@ -48,8 +48,8 @@ fn put_declarations(out: &mut [u8], at: usize, n: u32) -> usize
 
 // A bound.
 fn put_bound(out: &mut [u8], at: usize, c: i32) -> usize
-    ensures { λ _. ⌜ now (out .exit) ≡ written (now (out .entry)) at (boundText c) ⌝ }
-    ensures { λ r. ⌜ r ≡ writtenTo (now (out .entry)) at (boundText c) ⌝ }
+    ensures { λ _. ⌜ now (out .exit) ≡ written (now (out .entry)) at (boundOf c) ⌝ }
+    ensures { λ r. ⌜ r ≡ writtenTo (now (out .entry)) at (boundOf c) ⌝ }
 {
     let value = size(c);
     if c < 0 {
@@ -99,8 +99,8 @@ fn put_atoms(out: &mut [u8], at: usize, triples: &[i32]) -> usize
 
 // What an assert holds: the alternatives of triples.
 fn put_held(out: &mut [u8], at: usize, triples: &[i32]) -> usize
-    ensures { λ _. ⌜ now (out .exit) ≡ written (now (out .entry)) at (heldText (map atomText (alternatives 0 (now (triples .entry))))) ⌝ }
-    ensures { λ r. ⌜ r ≡ writtenTo (now (out .entry)) at (heldText (map atomText (alternatives 0 (now (triples .entry))))) ⌝ }
+    ensures { λ _. ⌜ now (out .exit) ≡ written (now (out .entry)) at (heldOf (map atomText (alternatives 0 (now (triples .entry))))) ⌝ }
+    ensures { λ r. ⌜ r ≡ writtenTo (now (out .entry)) at (heldOf (map atomText (alternatives 0 (now (triples .entry))))) ⌝ }
 {
     let many = triples.len() / 3;
     if many == 0 {

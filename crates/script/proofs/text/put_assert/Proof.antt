@@ -4,7 +4,7 @@ use borrow.Author.Needs.{needs}
 use Rattle.meaning.specs.Screen.{alternatives}
 use Rattle.dialogue.proofs.Buffers.{after}
 use Rattle.grammar.specs.Grammar.{bytes}
-use Rattle.script.specs.Text.{atomText, heldText, assertOf}
+use Rattle.script.specs.Text.{atomText, heldOf, assertOf}
 use Rattle.script.proofs.text.put_assert.Statement.{statement}
 use Rattle.script.proofs.text.put_assert.Tie as tie
 
@@ -31,7 +31,7 @@ unfolding assertOf bytes
 returns c =
     let a = c .before .before .before .before .before .before .before .before .before .before .before .before .before .before .before .args in
     let p = c .before .before .before .before .before .before .before .before .before .before .before .put in
-    let held = heldText (map atomText (alternatives 0 (a .triples .now))) in
+    let held = heldOf (map atomText (alternatives 0 (a .triples .now))) in
     after (a .out .now) (a .at) (bytes "(assert ") (held ++ bytes ")\n") (p .ensures)
     (after (p .last .0) (p .result) held (bytes ")\n") (c .before .before .before .before .before .before .before .put-held .ensures) (c .before .before .put2 .ensures))
 

@@ -6,7 +6,7 @@ use lib.IntN.{natAbs}
 use mathlib.Core.List.{_++_}
 use Rattle.dialogue.proofs.Buffers.{after}
 use Rattle.grammar.specs.Grammar.{bytes}
-use Rattle.script.specs.Text.{nameOf, boundText, atomOf}
+use Rattle.script.specs.Text.{nameOf, boundOf, atomOf}
 use Rattle.script.proofs.text.put_atom.Statement.{statement}
 use Rattle.script.proofs.text.put_atom.Tie as tie
 
@@ -65,7 +65,7 @@ returns c =
     let v = c .before .before .before .before .before .before .before .put-bound in
     let x = nameOf (natAbs (a .x)) in
     let y = nameOf (natAbs (a .y)) in
-    let k = boundText (a .c) in
+    let k = boundOf (a .c) in
     let x-is : c .before .before .before .before .before .before .before .before .before .before .before .before .before .before .before .before .before .before .before .before .before .before .before .before .before .before .before .size .result ≡ natAbs (a .x) = rw (toZ-ofZ (s .fits .x)) at (c .before .before .before .before .before .before .before .before .before .before .before .before .before .before .before .before .before .before .before .before .before .before .before .before .before .before .before .size .ensures) in
     let y-is : c .before .before .before .before .before .before .before .before .before .before .before .before .before .before .before .before .before .size2 .result ≡ natAbs (a .y) = rw (toZ-ofZ (s .fits .y)) at (c .before .before .before .before .before .before .before .before .before .before .before .before .before .before .before .before .before .size2 .ensures) in
     after (a .out .now) (a .at) (bytes "(<= (- ") (x ++ (bytes " " ++ (y ++ (bytes ") " ++ (k ++ bytes ")"))))) (p .ensures)

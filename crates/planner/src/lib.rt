@@ -1,5 +1,5 @@
-// The planner's public operations: `plan`, `read_reasons`, `read_timetable`, `lamps`, `slide` and `read_script`. Each answers every input; none
-// asks anything of its caller.
+// The planner's public operations: `plan`, `read_reasons`, `read_timetable`, `lamps`, `slide`, `read_script` and `write_script`. Each answers
+// every input; none asks anything of its caller.
 ghost use mathlib.Core.Path.{_≡_};
 ghost use mathlib.Core.Bool.{true};
 ghost use mathlib.Core.List.{_++_};
@@ -23,6 +23,7 @@ use problem::ROW;
 pub use readers::read_reasons;
 pub use readers::read_timetable;
 pub use script::read_script;
+pub use script::write_script;
 use search::Place;
 use search::Turn;
 pub use slider::slide;

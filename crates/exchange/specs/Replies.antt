@@ -1,6 +1,8 @@
 -- The replies as text, in ASCII, without the line feed. Assumes nothing.
 use Prim.Native.Nat.{ℕ, zero, suc}
+use mathlib.Core.Bool.{cond}
 use mathlib.Core.List.{List, [], _∷_, _++_, map}
+use lib.Dec.{eqb}
 use lib.ListN.{length}
 use lib.IntN.{ℤ}
 use Rattle.dialogue.specs.Written.{decimal, signedDecimal, led}
@@ -40,11 +42,13 @@ abbrev pub bar : ℕ → List ℕ
 bar zero = 32 ∷ 124 ∷ 32 ∷ []
 bar (suc n) = 32 ∷ 124 ∷ []
 
+-- ` | ` the room's bytes
+abbrev pub roomText : List ℕ → List ℕ
+roomText room = bar (length room) ++ led (map decimal room)
+
 -- ` | ` the timetable's elements ` | ` the picks' ` | ` the reasons'
 abbrev pub lentText : List ℤ → List ℕ → List ℕ → List ℕ
-lentText timetable picks reasons =
-    ((((bar (length timetable) ++ led (map signedDecimal timetable)) ++ bar (length picks)) ++ led (map decimal picks)) ++ bar (length reasons))
-    ++ led (map decimal reasons)
+lentText timetable picks reasons = ((bar (length timetable) ++ led (map signedDecimal timetable)) ++ roomText picks) ++ roomText reasons
 
 -- `yes`, `no` or `refused NUMBER`
 abbrev pub verdictText : Verdict → List ℕ
@@ -72,3 +76,11 @@ problemText n triples counts =
 -- `refused NUMBER PLACE`
 abbrev pub refusedAtText : ℕ → ℕ → List ℕ
 refusedAtText number place = refusedText number ++ next place
+
+-- "a refusal is printed as refused 20 17 or refused 6"
+unfoldable pub scriptRefusedText : ℕ → ℕ → List ℕ
+scriptRefusedText number place = cond (eqb number 20) (refusedAtText number place) (refusedText number)
+
+-- `text LENGTH`
+abbrev pub lengthText : ℕ → List ℕ
+lengthText n = (116 ∷ 101 ∷ 120 ∷ 116 ∷ []) ++ next n

@@ -2,13 +2,16 @@
 ghost use mathlib.Core.Path.{_≡_};
 ghost use mathlib.Core.List.{map};
 ghost use Rattle.dialogue.specs.Written.{written, writtenTo, decimal, led};
-ghost use Rattle.exchange.specs.Replies.{next, withTwo, withThree, refusedText, answerText, bar, lentText, verdictText, panelText, boundText, problemText, refusedAtText};
+ghost use Rattle.exchange.specs.Replies.{next, withTwo, withThree, refusedText, answerText, bar, lentText, verdictText, panelText, boundText, problemText, refusedAtText, scriptRefusedText, lengthText, roomText};
 use dialogue::put;
 use dialogue::put_number;
 use meaning::Answer;
 use meaning::Panel;
 use meaning::Verdict;
 use slider::SliderAnswer;
+
+// The refusal of a script that carries a place.
+const WITH_PLACE: u8 = 20;
 
 // A space and a number.
 fn put_next(reply: &mut [u8], at: usize, n: u64) -> usize
@@ -39,7 +42,7 @@ fn put_three(reply: &mut [u8], word: &[u8], visits: u64, before: u64, rows: u64)
 }
 
 // A refusal and its number.
-fn put_refused(reply: &mut [u8], number: u8) -> usize
+pub fn put_refused(reply: &mut [u8], number: u8) -> usize
     ensures { λ _. ⌜ now (reply .exit) ≡ written (now (reply .entry)) 0 (refusedText number) ⌝ }
     ensures { λ r. ⌜ r ≡ writtenTo (now (reply .entry)) 0 (refusedText number) ⌝ }
 {
@@ -81,6 +84,15 @@ fn put_bar(reply: &mut [u8], at: usize, length: usize) -> usize
     }
 }
 
+// The bytes of lent room, led by a bar.
+pub fn put_room(reply: &mut [u8], at: usize, room: &[u8]) -> usize
+    ensures { λ _. ⌜ now (reply .exit) ≡ written (now (reply .entry)) at (roomText (now (room .entry))) ⌝ }
+    ensures { λ r. ⌜ r ≡ writtenTo (now (reply .entry)) at (roomText (now (room .entry))) ⌝ }
+{
+    let to = put_bar(reply, at, room.len());
+    dialogue::put_bytes(reply, to, room)
+}
+
 // The lent memory, each part led by a bar.
 pub fn put_lent(
     reply: &mut [u8],
@@ -94,10 +106,8 @@ pub fn put_lent(
 {
     let to = put_bar(reply, at, timetable.len());
     let to = dialogue::put_times(reply, to, timetable);
-    let to = put_bar(reply, to, picks.len());
-    let to = dialogue::put_bytes(reply, to, picks);
-    let to = put_bar(reply, to, reasons.len());
-    dialogue::put_bytes(reply, to, reasons)
+    let to = put_room(reply, to, picks);
+    put_room(reply, to, reasons)
 }
 
 // What a reader says.
@@ -168,4 +178,25 @@ pub fn put_refused_at(reply: &mut [u8], number: u8, place: usize) -> usize
 {
     let to = put_refused(reply, number);
     put_next(reply, to, place as u64)
+}
+
+// A script's refusal as a program prints it: its number, and its place where it has one.
+pub fn put_script_refused(line: &mut [u8], number: u8, place: usize) -> usize
+    ensures { λ _. ⌜ now (line .exit) ≡ written (now (line .entry)) 0 (scriptRefusedText number place) ⌝ }
+    ensures { λ r. ⌜ r ≡ writtenTo (now (line .entry)) 0 (scriptRefusedText number place) ⌝ }
+{
+    if number == WITH_PLACE {
+        put_refused_at(line, number, place)
+    } else {
+        put_refused(line, number)
+    }
+}
+
+// The length of a text that was written.
+pub fn put_length(reply: &mut [u8], length: usize) -> usize
+    ensures { λ _. ⌜ now (reply .exit) ≡ written (now (reply .entry)) 0 (lengthText length) ⌝ }
+    ensures { λ r. ⌜ r ≡ writtenTo (now (reply .entry)) 0 (lengthText length) ⌝ }
+{
+    let to = put(reply, 0, b"text");
+    put_next(reply, to, length as u64)
 }

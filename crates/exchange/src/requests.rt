@@ -38,7 +38,7 @@ pub enum Head {
 }
 
 // A count at `at`, `most` at most.
-fn count_at(line: &[u8], at: usize, most: usize) -> Counted
+pub fn count_at(line: &[u8], at: usize, most: usize) -> Counted
     ensures { λ r. ⌜ r ≡ countAt (now (line .entry)) at most ⌝ }
 {
     let Next::Of { value, place } = dialogue::number_at(line, at, ANY) else {

@@ -2,7 +2,7 @@
 use mathlib.Core.Bool.{cond}
 use mathlib.Core.List.{List}
 use Prim.Native.Nat.{ℕ, zero, suc, _*_}
-use lib.Dec.{ltb, eqb}
+use lib.Dec.{ltb}
 use lib.ListN.{length, take}
 use Rattle.meaning.specs.declared.Answer.{Answer}
 use Rattle.meaning.specs.declared.Answer.the-variants as Answer
@@ -12,7 +12,7 @@ use Rattle.grammar.specs.Grammar.{bytes}
 use Rattle.script.specs.declared.Script.{Script}
 use Rattle.script.specs.Script.{scriptIn, mostBytes}
 use Rattle.planner.specs.Call.{call}
-use Rattle.exchange.specs.Replies.{refusedText, refusedAtText}
+use Rattle.exchange.specs.Replies.{scriptRefusedText}
 use Rattle.solve.specs.declared.Saying.{Saying}
 use Rattle.solve.specs.declared.Saying.the-variants.{Sat, Unsat, Unknown, Refused, TooLong}
 
@@ -35,10 +35,10 @@ ofScript s (suc r) = Refused (suc r) (s .place)
 unfoldable pub says : List ℕ → Saying
 says text = let r = ofScript (scriptIn text) (scriptIn text .number) in cond (ltb mostBytes (length text)) TooLong r
 
--- the line: "a refusal is printed as refused 20 17 or refused 6"
+-- the line
 unfoldable pub said : Saying → List ℕ
 said Sat = bytes "sat"
 said Unsat = bytes "unsat"
 said Unknown = bytes "unknown"
-said (Refused n place) = cond (eqb n 20) (refusedAtText n place) (refusedText n)
+said (Refused n place) = scriptRefusedText n place
 said TooLong = bytes "too long"

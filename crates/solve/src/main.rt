@@ -4,12 +4,10 @@ ghost use mathlib.Core.Path.{_≡_};
 ghost use Rattle.dialogue.specs.Written.{written, writtenTo};
 ghost use Rattle.solve.specs.Says.{ofAnswer, says, said};
 use dialogue::put;
-use exchange::put_refused_at;
-use exchange::put_verdict;
+use exchange::put_script_refused;
 use libc::STDIN_FILENO;
 use libc::STDOUT_FILENO;
 use meaning::Answer;
-use meaning::Verdict;
 use problem::CLAUSES;
 use problem::EVENTS;
 
@@ -18,9 +16,6 @@ const BYTES: usize = 65536;
 
 // The allowance of visits.
 const ALLOWANCE: u32 = 1000000;
-
-// The refusal that carries a place.
-const WITH_PLACE: u8 = 20;
 
 // What is said of a script.
 pub enum Saying {
@@ -99,13 +94,7 @@ fn put_saying(line: &mut [u8], saying: Saying) -> usize
         Saying::Sat => put(line, 0, b"sat"),
         Saying::Unsat => put(line, 0, b"unsat"),
         Saying::Unknown => put(line, 0, b"unknown"),
-        Saying::Refused { number, place } => {
-            if number == WITH_PLACE {
-                put_refused_at(line, number, place)
-            } else {
-                put_verdict(line, Verdict::Refused { number })
-            }
-        }
+        Saying::Refused { number, place } => put_script_refused(line, number, place),
         Saying::TooLong => put(line, 0, b"too long"),
     }
 }

@@ -1,5 +1,4 @@
 -- `solve::put_saying` meets its contract: by the case of what is said. Assumes nothing.
-use borrow.Author.Tests.{eq-eqb, ne-eqb}
 use borrow.Author.Needs.{needs}
 use Rattle.grammar.specs.Grammar.{bytes}
 use Rattle.solve.specs.Says.{said}
@@ -36,11 +35,8 @@ put-requires-3 c κs = search needs
 enum-known-saying : tie.Need-enum-known-saying
 enum-known-saying c = search needs
 
-put-refused-at-requires : tie.Need-put-refused-at-requires
-put-refused-at-requires c κs = search needs
-
-put-verdict-requires : tie.Need-put-verdict-requires
-put-verdict-requires c κs = search needs
+put-script-refused-requires : tie.Need-put-script-refused-requires
+put-script-refused-requires c κs = search needs
 
 enum-told-4 : tie.Need-enum-told-4
 enum-told-4 c = search needs
@@ -76,22 +72,15 @@ same-length-4 : tie.Need-same-length-4
 same-length-4 c = search needs
 
 returns-4 : tie.Need-returns-4
-unfolding said bytes
-returns-4 c = rw (c .before .before .before .before .before .before .saying .given .1, eq-eqb _ 20 (c .before .before .before .before .if1 .taken)) (c .before .before .put-refused-at .ensures)
+unfolding said
+returns-4 c = rw (c .before .before .before .before .before .saying .given .1) (c .before .before .put-script-refused .ensures)
 
 same-length-5 : tie.Need-same-length-5
 same-length-5 c = search needs
 
 returns-5 : tie.Need-returns-5
 unfolding said bytes
-returns-5 c = rw (c .before .before .before .before .before .before .saying .given .1, ne-eqb _ 20 (c .before .before .before .before .if1 .left)) (c .before .before .put-verdict .ensures)
-
-same-length-6 : tie.Need-same-length-6
-same-length-6 c = search needs
-
-returns-6 : tie.Need-returns-6
-unfolding said bytes
-returns-6 c = rw (c .before .before .before .before .before .enum-told4 .given .1) (c .before .before .put4 .ensures)
+returns-5 c = rw (c .before .before .before .before .before .enum-told4 .given .1) (c .before .before .put4 .ensures)
 
 pub put-saying-spec : {M : Type 1} → statement M
 put-saying-spec =
@@ -107,8 +96,7 @@ put-saying-spec =
     slice-aggregate-put-3
     put-requires-3
     enum-known-saying
-    put-refused-at-requires
-    put-verdict-requires
+    put-script-refused-requires
     enum-told-4
     slice-aggregate-put-4
     put-requires-4
@@ -121,6 +109,4 @@ put-saying-spec =
     same-length-4
     returns-4
     same-length-5
-    returns-5
-    same-length-6
-    returns-6)
+    returns-5)

@@ -120,6 +120,9 @@ fn answer(
     if check::same(word, b"script") {
         return operations::script(line, at, reply, reasons);
     }
+    if check::same(word, b"write") {
+        return operations::write(line, at, reply, triples, counts, reasons);
+    }
     0
 }
 

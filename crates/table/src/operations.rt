@@ -1,4 +1,4 @@
-// The six requests: each reads the rest of its line from `at` on, calls the planner and writes the reply.
+// The seven requests: each reads the rest of its line from `at` on, calls the planner and writes the reply.
 // Each answers how long the reply is; 0 where the line is malformed.
 ghost use Prim.Native.Nat.{_≤_};
 ghost use Rattle.meaning.specs.Limits.{mostAlternatives, mostClauses};
@@ -9,17 +9,22 @@ use exchange::Counted;
 use exchange::Head;
 use exchange::Lists;
 use exchange::byte_list;
+use exchange::count_at;
 use exchange::head_at;
 use exchange::lists_at;
 use exchange::put_answer;
 use exchange::put_bound;
+use exchange::put_length;
 use exchange::put_lent;
 use exchange::put_panel;
 use exchange::put_problem;
+use exchange::put_refused;
 use exchange::put_refused_at;
+use exchange::put_room;
 use exchange::put_verdict;
 use exchange::signed_list;
 use script::Script;
+use script::Written;
 use slider::Kind;
 use slider::Travel;
 use slider::Use;
@@ -301,4 +306,49 @@ fn put_script(reply: &mut [u8], script: Script) -> usize
         &triples[..3 * script.alternatives],
         &counts[..script.clauses],
     )
+}
+
+// write R N K t1 … tK M e1 … eM
+pub(crate) fn write(
+    line: &[u8],
+    at: usize,
+    reply: &mut [u8],
+    triples: &mut [i32],
+    counts: &mut [u32],
+    room: &mut [u8],
+) -> usize {
+    let Counted::Of { count: r, place } = count_at(line, at, room.len()) else {
+        return 0;
+    };
+    let Next::Of { value: n, place } = number_at(line, place, ANY) else {
+        return 0;
+    };
+    let Lists::Of {
+        triples: k,
+        counts: m,
+        place,
+    } = lists_at(line, place, triples, counts)
+    else {
+        return 0;
+    };
+    if place < line.len() {
+        return 0;
+    }
+    write_lent(n, &triples[..k], &counts[..m], &mut room[..r], reply)
+}
+
+// The text written into this room, and its reply.
+fn write_lent(n: u32, triples: &[i32], counts: &[u32], room: &mut [u8], reply: &mut [u8]) -> usize {
+    lent::fill_bytes(room, FILL);
+    let written = planner::write_script(n, triples, counts, room);
+    let to = put_written(reply, written);
+    put_room(reply, to, room)
+}
+
+// What writing gives: the length of the text, or the refusal.
+fn put_written(reply: &mut [u8], written: Written) -> usize {
+    match written {
+        Written::Text(length) => put_length(reply, length),
+        Written::Refused(number) => put_refused(reply, number),
+    }
 }

@@ -144,8 +144,32 @@ same-length-20 c = search needs
 returns-6 : tie.Need-returns-6
 returns-6 c = search needs
 
+slice-aggregate-same-7 : tie.Need-slice-aggregate-same-7
+slice-aggregate-same-7 c = search needs
+
+same-requires-7 : tie.Need-same-requires-7
+same-requires-7 c κs = search needs
+
+write-requires : tie.Need-write-requires
+write-requires c κs = search needs
+
+same-length-21 : tie.Need-same-length-21
+same-length-21 c = search needs
+
+same-length-22 : tie.Need-same-length-22
+same-length-22 c = search needs
+
+same-length-23 : tie.Need-same-length-23
+same-length-23 c = search needs
+
+same-length-24 : tie.Need-same-length-24
+same-length-24 c = search needs
+
 returns-7 : tie.Need-returns-7
 returns-7 c = search needs
+
+returns-8 : tie.Need-returns-8
+returns-8 c = search needs
 
 pub answer-spec : {M : Type 1} → statement M
 answer-spec =
@@ -197,4 +221,12 @@ answer-spec =
     same-length-19
     same-length-20
     returns-6
-    returns-7)
+    slice-aggregate-same-7
+    same-requires-7
+    write-requires
+    same-length-21
+    same-length-22
+    same-length-23
+    same-length-24
+    returns-7
+    returns-8)

@@ -8,6 +8,7 @@ use crate::reasons::{self, FILLING, ROW};
 use crate::script::{self, Refused};
 use crate::search::{search, Ending, Outcome, Row};
 use crate::slider::slide;
+use crate::text::{page, Page};
 use std::fmt::{self, Display};
 
 #[derive(Clone, Debug)]
@@ -18,6 +19,7 @@ pub enum Reply {
     Lamps(Refusal, Panel),
     Bound(Result<i64, Refusal>),
     Script(Result<Lent, Refused>),
+    Written(Page),
 }
 
 /// What the screen says, and every lent element afterwards.
@@ -56,6 +58,7 @@ pub fn answer(request: Option<&Request>) -> Reply {
         },
         Some(Request::Slide { kind, position, used }) => Reply::Bound(slide(*kind, *position, *used)),
         Some(Request::Script { text }) => Reply::Script(script::read(text)),
+        Some(Request::Write { room, lent }) => Reply::Written(page(lent, *room)),
     }
 }
 
@@ -173,6 +176,8 @@ impl Display for Reply {
             }
             Reply::Script(Ok(lent)) => write!(f, "problem {} {}", lent.events, Parts(lent)),
             Reply::Script(Err(Refused { number, place })) => write!(f, "refused {number} {place}"),
+            Reply::Written(Page { said: Ok(length), room }) => write!(f, "text {length} | {}", Spaced(room)),
+            Reply::Written(Page { said: Err(number), room }) => write!(f, "refused {number} | {}", Spaced(room)),
         }
     }
 }

@@ -10,6 +10,7 @@ pub const MOST_COUNTS: usize = 64;
 pub const MOST_TIMES: usize = 64;
 pub const MOST_REASONS: usize = 65_536;
 pub const LONGEST_SCRIPT: usize = 65_536;
+pub const MOST_ROOM: usize = 65_536;
 
 #[derive(Clone, Debug, PartialEq, Eq)]
 pub enum Request {
@@ -19,6 +20,7 @@ pub enum Request {
     Lamps { lent: Lent },
     Slide { kind: Kind, position: u32, used: Use },
     Script { text: Vec<u8> },
+    Write { room: usize, lent: Lent },
 }
 
 /// A plan request: the problem, the allowance, and how many elements of each result are lent.
@@ -44,6 +46,7 @@ pub fn request(line: &[u8]) -> Option<Request> {
         b"lamps" => Request::Lamps { lent: words.rest_of_lent(None)? },
         b"slide" => words.slide()?,
         b"script" => Request::Script { text: words.bytes(LONGEST_SCRIPT)? },
+        b"write" => Request::Write { room: words.count(MOST_ROOM)?, lent: words.rest_of_lent(None)? },
         _ => return None,
     };
     words.left.is_none().then_some(request)
@@ -211,6 +214,7 @@ impl Display for Request {
                 write!(f, "slide {number} {a} {b} {position} {}", u8::from(*used == Use::AtLeast))
             }
             Request::Script { text } => write!(f, "script {}", Counted(text)),
+            Request::Write { room, lent } => write!(f, "write {room} {} {}", lent.events, Parts(lent)),
         }
     }
 }

@@ -23,6 +23,7 @@ mod search;
 mod serve;
 mod slider;
 mod spoil;
+mod text;
 
 use requests::peers::Script;
 use std::fs;

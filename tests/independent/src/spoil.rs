@@ -277,7 +277,10 @@ fn change_allowance(request: &mut Request, by: i32) {
 fn lent_of(request: &mut Request) -> Option<&mut Lent> {
     match request {
         Request::Plan(asked) => Some(&mut asked.lent),
-        Request::Reasons { lent, .. } | Request::Times { lent, .. } | Request::Lamps { lent } => Some(lent),
+        Request::Reasons { lent, .. }
+        | Request::Times { lent, .. }
+        | Request::Lamps { lent }
+        | Request::Write { lent, .. } => Some(lent),
         Request::Slide { .. } | Request::Script { .. } => None,
     }
 }

@@ -1,11 +1,12 @@
-//! The lines that every run begins with: the days of 01 and their edges, the sliders of 01 and 02, worked scripts,
-//! and the longest lines.
+//! The lines that every run begins with: the days of 01 and their edges, the sliders of 01 and 02, worked scripts
+//! and texts, and the longest lines.
 
 use super::fixed_scripts;
 use super::lines::long_line;
 use super::lists::rows_of_the_search;
 use super::problems::{lent, Triple};
 use super::sliders::bits_of;
+use super::texts;
 use crate::dialogue::{Asked, Request, LONGEST_LINE};
 use crate::problem::{Lent, MOST_CLAUSES, MOST_EVENTS, MOST_IN_CLAUSE};
 use crate::reasons::{filled, DEAD, FILLING, GOES_ON, ROW};
@@ -18,6 +19,7 @@ pub fn lines() -> Vec<Vec<u8>> {
     requests.extend(lamps());
     requests.extend(sliders());
     requests.extend(fixed_scripts::requests());
+    requests.extend(texts());
     let mut lines: Vec<Vec<u8>> = requests.iter().map(|request| request.to_string().into_bytes()).collect();
     lines.push(long_line(LONGEST_LINE));
     lines.push(long_line(LONGEST_LINE + 1));
@@ -161,6 +163,22 @@ fn timetables() -> Vec<Request> {
 
 fn lamps() -> Vec<Request> {
     days().into_iter().chain(edges()).map(|lent| Request::Lamps { lent }).collect()
+}
+
+/// The days, the edges and the longest text, in rooms around their length.
+fn texts() -> Vec<Request> {
+    let mut requests = Vec::new();
+    for lent in days().into_iter().chain(edges()).chain([longest()]) {
+        requests.extend(texts::rooms(&lent).into_iter().map(|room| Request::Write { room, lent: lent.clone() }));
+    }
+    requests
+}
+
+/// The longest text: an empty clause beside one of four takes more bytes than two of two, and an atom takes the
+/// most with two events of two digits and the lowest bound.
+pub fn longest() -> Lent {
+    let atoms = vec![[LAST, LAST - 1, -100_000]; MOST_IN_CLAUSE];
+    lent(MOST_EVENTS, &[vec![atoms; MOST_CLAUSES / 2], vec![Vec::new(); MOST_CLAUSES / 2]].concat())
 }
 
 /// The sliders of 01 and of A2 in 02, a Rate at the bound's limit, two that are whole though 1 ÷ position is not, and

@@ -25,7 +25,7 @@ pub fn mangled(random: &mut Random, line: Vec<u8>) -> Vec<u8> {
 }
 
 /// Lines that are malformed, or nearly so, by themselves.
-const FIXED: [&[u8]; 28] = [
+const FIXED: [&[u8]; 34] = [
     b"",
     b" ",
     b"\0",
@@ -54,6 +54,12 @@ const FIXED: [&[u8]; 28] = [
     b"script 1",
     b"script 1 256",
     b"script 01 0059",
+    b"write",
+    b"write 0 1 0",
+    b"write 0 1 0 0",
+    b"write -0 1 0 0",
+    b"write 0055 01 00 0",
+    b"write 65537 1 0 0",
 ];
 
 /// Numbers that one type or another does not hold, and words that are no numbers.
@@ -150,6 +156,10 @@ fn change_count(random: &mut Random, words: &mut Words) {
             let long = if random.one_in(10) { random.among(&[65_536, 65_537]) } else { 16 };
             zeros("script", &[long])
         }
+        b"write" => {
+            let room = random.among(&["0", "16", "65537", "4294967295"]);
+            zeros(&format!("write {room} 1"), &[random.among(&[255, 256, 257]), random.among(&[64, 65])])
+        }
         b"lamps" => zeros("lamps 1", &[random.among(&[255, 256, 257]), random.among(&[64, 65])]),
         _ => format!("slide {} 0 {} 0 {}", random.below(4), random.below(2), random.below(3)),
     };
@@ -168,8 +178,10 @@ fn zeros(front: &str, counts: &[usize]) -> String {
 }
 
 fn change_name(random: &mut Random, words: &mut Words) {
-    let names =
-        ["plan", "reasons", "times", "lamps", "slide", "script", "Plan", "pla", "plans", "", "lamp", "none", "scripts"];
+    let names = [
+        "plan", "reasons", "times", "lamps", "slide", "script", "write", "Plan", "pla", "plans", "", "lamp", "none",
+        "scripts", "writes", "text",
+    ];
     words[0] = random.among(&names).into();
 }
 

@@ -13,6 +13,7 @@ mod rings;
 pub mod scripts;
 mod sliders;
 mod spoiled;
+pub mod texts;
 mod writing;
 
 pub use lists::closed_pair_not_below_0;
@@ -53,13 +54,14 @@ fn random_line(random: &mut Random) -> Vec<u8> {
 }
 
 fn random_request(random: &mut Random) -> Request {
-    match random.below(27) {
+    match random.below(30) {
         0..=9 => Request::Plan(plan(random)),
         10..=12 => reasons(random),
         13..=14 => times(random),
         15..=16 => lamps(random),
         17..=19 => sliders::request(random),
-        _ => scripts::request(random),
+        20..=26 => scripts::request(random),
+        _ => texts::request(random),
     }
 }
 

@@ -24,6 +24,8 @@ mod serve;
 mod slider;
 mod spoil;
 mod text;
+#[cfg(test)]
+mod text_tests;
 
 use requests::peers::Script;
 use std::fs;

@@ -42,7 +42,7 @@ fn declarations(count: usize) -> String {
     (0..count).map(|event| format!("(declare-fun e{event} () Int)\n")).collect()
 }
 
-const DAY_1: &str = "(set-logic QF_IDL)
+pub const DAY_1: &str = "(set-logic QF_IDL)
 (declare-fun e0 () Int)
 (declare-fun e1 () Int)
 (assert (<= (- e0 e1) (- 30)))

@@ -2,13 +2,14 @@
 
 use crate::answer::{accepted, answer, Answer, Reply, Screen};
 use crate::dialogue::{request, Request};
-use crate::problem::{Lent, Problem, Refusal};
+use crate::problem::{Lent, Problem, Refusal, FARTHEST_BOUND};
 use crate::reasons::{whole_reading, FILLING, GOES_ON, ROW};
 use crate::requests::closed_pair_not_below_0;
 use crate::script::{Refused, NOT_ALLOWED};
 use crate::search::Row;
 use crate::serve;
 use crate::slider::Use;
+use crate::text::{self, Page, LONGER_THAN_ROOM};
 use std::ops::RangeInclusive;
 
 /// What a way changes: the line before it is read, the request, the reply, or the texts that are written.
@@ -20,7 +21,7 @@ enum Way {
     Texts(fn(usize, String) -> Vec<String>),
 }
 
-const WAYS: [(&str, Way); 55] = [
+const WAYS: [(&str, Way); 63] = [
     ("visits one more", Way::Screen(|_, screen| change_numbers(screen, |visits, _, _| *visits += 1))),
     (
         "before one less",
@@ -126,6 +127,24 @@ const WAYS: [(&str, Way); 55] = [
             change_text(request, |text| text.iter_mut().filter(|byte| **byte == b'\r').for_each(|byte| *byte = b' '))
         }),
     ),
+    ("write: the length one more", Way::Reply(|_, reply| change_said(reply, |said| said.map(|length| length + 1)))),
+    (
+        "write: a refusal's number one more",
+        Way::Reply(|_, reply| change_said(reply, |said| said.map_err(|number| number + 1))),
+    ),
+    (
+        "write: a 7 left after the text",
+        Way::Reply(|_, reply| {
+            if let Reply::Written(Page { said: Ok(_), room }) = reply {
+                change_last(room, |byte| byte == 0, 7)
+            }
+        }),
+    ),
+    ("write: 6 that clears nothing", Way::Reply(|_, reply| left_as_lent(reply, 6))),
+    ("write: 21 that clears nothing", Way::Reply(|_, reply| left_as_lent(reply, LONGER_THAN_ROOM))),
+    ("write: 21 that leaves the text's front", Way::Reply(front_left)),
+    ("write: 21 before 6", Way::Reply(room_before_bounds)),
+    ("write: 21 before 1 to 6 where there is no room", Way::Reply(|_, reply| no_room_first(reply))),
     ("a plus sign taken", Way::Line(|line| line.iter().copied().filter(|byte| *byte != b'+').collect())),
     ("a carriage return taken", Way::Line(|line| line.strip_suffix(b"\r").unwrap_or(line).to_vec())),
     ("malformed answered as refused", Way::Texts(|_, text| vec![text.replace("malformed", "refused 1")])),
@@ -357,12 +376,62 @@ fn events_exchanged(lent: &mut Lent) {
 }
 
 fn sign_lost(lent: &mut Lent) {
-    lent.triples.iter_mut().skip(2).step_by(3).for_each(|bound| *bound = bound.abs());
+    bounds(lent).for_each(|bound| *bound = bound.abs());
+}
+
+fn bounds(lent: &mut Lent) -> impl Iterator<Item = &mut i32> {
+    lent.triples.iter_mut().skip(2).step_by(3)
 }
 
 /// Changes the text of a script before it is read.
 fn change_text(request: &mut Request, change: fn(&mut Vec<u8>)) {
     if let Request::Script { text } = request {
         change(text);
+    }
+}
+
+/// Changes what is said of a text.
+fn change_said(reply: &mut Reply, change: fn(Result<usize, Refusal>) -> Result<usize, Refusal>) {
+    if let Reply::Written(page) = reply {
+        page.said = change(page.said);
+    }
+}
+
+/// Leaves the room as it was lent, where a text is refused with this number.
+fn left_as_lent(reply: &mut Reply, number: Refusal) {
+    if let Reply::Written(Page { said: Err(refused), room }) = reply {
+        if *refused == number {
+            room.fill(7);
+        }
+    }
+}
+
+/// Leaves as much of the text as there is room for, where it is longer.
+fn front_left(request: &Request, reply: &mut Reply) {
+    if let (Request::Write { lent, .. }, Reply::Written(page)) = (request, reply) {
+        if let (Err(LONGER_THAN_ROOM), Ok(problem)) = (page.said, lent.accepted()) {
+            page.room = text::filled(&text::text(&problem), page.room.len());
+        }
+    }
+}
+
+/// Says 21 for 6 where the text is longer than the room with the bounds brought into their range.
+fn room_before_bounds(request: &Request, reply: &mut Reply) {
+    if let (Request::Write { room, lent }, Reply::Written(page @ Page { said: Err(6), .. })) = (request, reply) {
+        let mut lent = lent.clone();
+        bounds(&mut lent).for_each(|bound| *bound = (*bound).clamp(-FARTHEST_BOUND as i32, FARTHEST_BOUND as i32));
+        let in_range = text::page(&lent, *room);
+        if in_range.said == Err(LONGER_THAN_ROOM) {
+            *page = in_range;
+        }
+    }
+}
+
+/// Says 21 for every refusal where there is no room.
+fn no_room_first(reply: &mut Reply) {
+    if let Reply::Written(Page { said: said @ Err(_), room }) = reply {
+        if room.is_empty() {
+            *said = Err(LONGER_THAN_ROOM);
+        }
     }
 }

@@ -7,7 +7,7 @@ use super::lists::rows_of_the_search;
 use super::problems::{lent, Triple};
 use super::sliders::bits_of;
 use super::texts;
-use crate::dialogue::{Asked, Request, LONGEST_LINE};
+use crate::dialogue::{Asked, Request, LONGEST_LINE, MOST_ROOM};
 use crate::problem::{Lent, MOST_CLAUSES, MOST_EVENTS, MOST_IN_CLAUSE};
 use crate::reasons::{filled, DEAD, FILLING, GOES_ON, ROW};
 use crate::slider::{Kind, Use};
@@ -165,12 +165,14 @@ fn lamps() -> Vec<Request> {
     days().into_iter().chain(edges()).map(|lent| Request::Lamps { lent }).collect()
 }
 
-/// The days, the edges and the longest text, in rooms around their length.
+/// The days, the edges and the longest text, in rooms around their length; the longest also in the most room that may
+/// be lent, and in a byte more.
 fn texts() -> Vec<Request> {
     let mut requests = Vec::new();
     for lent in days().into_iter().chain(edges()).chain([longest()]) {
         requests.extend(texts::rooms(&lent).into_iter().map(|room| Request::Write { room, lent: lent.clone() }));
     }
+    requests.extend([MOST_ROOM, MOST_ROOM + 1].map(|room| Request::Write { room, lent: longest() }));
     requests
 }
 

@@ -40,6 +40,7 @@ const USAGE: &str = "usage:
   independent --ways                                     name the ways of spoiling, one to a line
   independent --bench EVENTS CLAUSES COUNT SEED ROOM     print plan requests for the figures
   independent --scripts EVENTS CLAUSES COUNT SEED FOLDER write scripts for solvers, and what each is to say
+  independent --writes COUNT SEED                        print for each problem a write request and a plan request
   independent --long-script BYTES                        print one script of exactly so many bytes";
 
 fn main() -> ExitCode {
@@ -74,6 +75,7 @@ fn told(words: &[String]) -> Result<ExitCode, String> {
             let (events, clauses) = (number(events)? as usize, number(clauses)? as usize);
             written(requests::peers::scripts(events, clauses, number(count)? as usize, number(seed)?)?, folder)
         }
+        ["--writes", count, seed] => listed(requests::peers::lines(number(count)? as usize, number(seed)?)),
         ["--long-script", length] => {
             let text = requests::peers::long_script(number(length)? as usize)?;
             io::stdout().write_all(&text).map_err(|error| error.to_string())?;

@@ -1,10 +1,11 @@
 //! Texts of 02, A5, written by hand as the lines of a script; and laws over random problems.
 
+use crate::answer::{answer, Answer, Reply};
 use crate::days_tests::says;
-use crate::dialogue::{Request, Spaced, MOST_ROOM};
+use crate::dialogue::{request, Request, Spaced, MOST_ROOM};
 use crate::problem::{Lent, MOST_ALTERNATIVES, MOST_CLAUSES, MOST_IN_CLAUSE};
 use crate::random::Random;
-use crate::requests::{days, texts};
+use crate::requests::{days, peers, texts};
 use crate::script;
 use crate::script_tests::DAY_1;
 use crate::text::{filled, page, text};
@@ -162,5 +163,20 @@ fn texts_read_as_their_problems() {
         let read = script::read(text.as_bytes());
         assert_eq!(read, Ok(lent), "{text}");
         assert_eq!(page(&read.expect("read"), text.len()).room, text.as_bytes());
+    }
+}
+
+/// The requests for peers come in pairs of one problem, whose text fits and whose search ends.
+#[test]
+fn requests_for_peers() {
+    for pair in peers::lines(500, 32).chunks(2) {
+        let asked: Vec<Option<Request>> = pair.iter().map(|line| request(line.as_bytes())).collect();
+        let [Some(Request::Write { lent, .. }), Some(Request::Plan(plan))] = &asked[..] else {
+            panic!("no pair of write and plan: {pair:?}");
+        };
+        assert_eq!(*lent, plan.lent);
+        assert!(matches!(answer(asked[0].as_ref()), Reply::Written(page) if page.said.is_ok()));
+        let ended = |answer: &Answer| matches!(answer, Answer::Plan { .. } | Answer::Unlisted { .. });
+        assert!(matches!(answer(asked[1].as_ref()), Reply::Screen(screen) if ended(&screen.answer)));
     }
 }

@@ -1,15 +1,17 @@
-//! Scripts that solvers of SMT-LIB take too, for holding them against one another; and a long one for the figures.
+//! Scripts that solvers of SMT-LIB take too, for holding them against one another; problems to be written as such; and
+//! a long one for the figures.
 
 use super::drafts::draft;
 use super::names::names;
 use super::problems::of_size;
+use super::texts::{self, AMPLE};
 use super::writing::{tokens, write, Blanks, Comments, Tokens};
-use crate::dialogue::LONGEST_SCRIPT;
-use crate::problem::{Lent, MOST_CLAUSES, MOST_EVENTS};
+use crate::dialogue::{Asked, Request, LONGEST_SCRIPT};
+use crate::problem::{Lent, MOST_ALLOWANCE, MOST_CLAUSES, MOST_EVENTS};
 use crate::random::Random;
 use crate::search::{search, Ending};
 
-/// A script's problem needs no more visits: one for solvers, and the long one, whose reading alone is to count.
+/// A problem needs no more visits: a script's for solvers, and one whose search is not to count beside its text.
 const MOST_VISITS: u64 = 20_000;
 const FEW_VISITS: u64 = 100;
 
@@ -29,17 +31,30 @@ pub fn scripts(events: usize, clauses: usize, count: usize, seed: u64) -> Result
 }
 
 fn script(random: &mut Random, events: usize, clauses: usize) -> Script {
-    let (lent, expected) = searched(random, events, clauses, MOST_VISITS);
+    let (lent, expected) = searched(random, MOST_VISITS, |random| of_size(random, events, clauses));
     let tokens = tokens_for_peers(random, &lent);
     let blanks = random.among(&[Blanks::Plain, Blanks::Fewest, Blanks::Some, Blanks::Some]);
     let comments = random.among(&[Comments::Missing, Comments::Printed]);
     Script { text: write(random, &tokens, blanks, comments).text, expected }
 }
 
-/// A problem whose search ends within so many visits, and what is to be said of it.
-fn searched(random: &mut Random, events: usize, clauses: usize, visits: u64) -> (Lent, &'static str) {
+/// Two lines for each of so many problems of all sizes: write with ample room, then plan with ample allowance.
+pub fn lines(count: usize, seed: u64) -> Vec<String> {
+    let mut random = Random::new(seed);
+    let pair = |_| {
+        let (lent, _) = searched(&mut random, FEW_VISITS, texts::problem);
+        let (timetable, picks) = (lent.events as usize, lent.counts.len());
+        let write = Request::Write { room: AMPLE, lent: lent.clone() };
+        let plan = Request::Plan(Asked { lent, allowance: MOST_ALLOWANCE, timetable, picks, reasons: 0 });
+        [write, plan].map(|request| request.to_string())
+    };
+    (0..count).flat_map(pair).collect()
+}
+
+/// A problem, as it is made, whose search ends within so many visits; and what is to be said of it.
+fn searched(random: &mut Random, visits: u64, made: impl Fn(&mut Random) -> Lent) -> (Lent, &'static str) {
     loop {
-        let lent = of_size(random, events, clauses);
+        let lent = made(random);
         let problem = lent.accepted().expect("the made problems are accepted");
         match search(&problem, visits, 0).ending {
             Ending::Plan(_) => return (lent, "sat"),
@@ -64,7 +79,7 @@ fn is_free_in_solvers(name: &[u8]) -> bool {
 pub fn long_script(length: usize) -> Result<Vec<u8>, String> {
     let mut random = Random::new(length as u64);
     for (events, clauses) in [(MOST_EVENTS, MOST_CLAUSES), (8, 8), (2, 1), (1, 0)] {
-        let (lent, _) = searched(&mut random, events, clauses, FEW_VISITS);
+        let (lent, _) = searched(&mut random, FEW_VISITS, |random| of_size(random, events, clauses));
         let tokens = tokens_for_peers(&mut random, &lent);
         if (2 * tokens.concat().len()..=LONGEST_SCRIPT).contains(&length) {
             return Ok(write(&mut random, &tokens, Blanks::Length(length), Comments::Printed).text);

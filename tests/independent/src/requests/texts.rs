@@ -8,14 +8,23 @@ use crate::random::Random;
 use crate::text::text;
 
 /// More room than any text takes.
-const AMPLE: usize = 4_096;
+pub const AMPLE: usize = 4_096;
 
 pub fn request(random: &mut Random) -> Request {
-    let mut lent = if random.one_in(3) { problems::problem(random) } else { of_any_clauses(random) };
+    let mut lent = problem(random);
     let length = text(&lent.accepted().expect("the made problems are accepted")).len();
     let room = room(random, length);
     maybe_spoil(random, &mut lent);
     Request::Write { room, lent }
+}
+
+/// A problem for a text: of any shape, or with clauses of all sizes and bounds of all lengths.
+pub fn problem(random: &mut Random) -> Lent {
+    if random.one_in(3) {
+        problems::problem(random)
+    } else {
+        of_any_clauses(random)
+    }
 }
 
 /// Room around the length of a text; seldom very much.
@@ -43,15 +52,17 @@ pub fn rooms(lent: &Lent) -> Vec<usize> {
     }
 }
 
-/// Any number of events, and of clauses of no to four alternatives, with bounds of any number of digits.
+/// Any number of events, and of clauses of one to four alternatives, often empty ones among them; with bounds of any
+/// number of digits.
 fn of_any_clauses(random: &mut Random) -> Lent {
     let n = some_events(random, 1);
     let m = random.below(MOST_CLAUSES + 1);
+    let least = random.below(2);
     let most = random.among(&[1, 2, MOST_IN_CLAUSE, MOST_IN_CLAUSE]);
     let mut left = MOST_ALTERNATIVES;
     let mut clauses: Vec<Vec<Triple>> = Vec::new();
     for _ in 0..m {
-        let size = random.below(most + 1).min(left);
+        let size = (least + random.below(most + 1 - least)).min(left);
         clauses.push((0..size).map(|_| of_any_bound(random, n)).collect());
         left -= size;
     }

@@ -5,8 +5,8 @@ use mathlib.Core.List.{List, [], _∷_, _++_, map}
 use native.Mathlib.Nat.{le-of-suc-le-suc}
 use native.Mathlib.Omega.{arith}
 use native.Mathlib.Numerals.{add-one}
-use lib.ListN.{length, set, drop, getD, drop-of-length-le}
-use lib.Seq.{drop-cons}
+use lib.ListN.{length, set, take, drop, getD, drop-of-length-le}
+use lib.Seq.{drop-cons, take-append-seam}
 use Rattle.dialogue.specs.Written.{written, writtenTo, led}
 
 -- nothing to write
@@ -105,12 +105,18 @@ written-fits [] (b ∷ t) h = absurd (omega arith)
 written-fits (x ∷ s) [] h = refl
 written-fits (x ∷ s) (b ∷ t) h = ap (λ (l : List ℕ). b ∷ l) (written-fits s t (le-of-suc-le-suc h))
 
-pub to-fits : (s t : List ℕ) → length t ≤ length s → writtenTo s 0 t ≡ length t
+to-fits : (s t : List ℕ) → length t ≤ length s → writtenTo s 0 t ≡ length t
 unfolding writtenTo
 to-fits [] [] h = refl
 to-fits [] (b ∷ t) h = absurd (omega arith)
 to-fits (x ∷ s) [] h = refl
 to-fits (x ∷ s) (b ∷ t) h = ap suc (to-fits s t (le-of-suc-le-suc h))
+
+-- and then it stands at the front of what a call left
+pub put-front : {held : List ℕ} {to : ℕ} (s t : List ℕ) → length t ≤ length s → (held ≡ written s 0 t) × (to ≡ writtenTo s 0 t) → (to ≡ length t) × (take to held ≡ t)
+put-front s t fits p =
+    let to-is = p .1 ∙ to-fits s t fits in
+    (to-is, rw (to-is, p .0 ∙ written-fits s t fits) (take-append-seam t (drop (length t) s)))
 
 -- a list of texts, each led by a space, from i on: a space, the next text, and the rest
 module _ {A : Type 0} (f : A → List ℕ) (l : List A) (i : ℕ) (z : A) (h : i < length l) (s s₁ s₂ : List ℕ) (at at₁ at₂ : ℕ)

@@ -6,12 +6,11 @@ use Prim.Native.Nat.{ℕ, zero, suc, _^_, _≤_, _<_}
 use native.Mathlib.Omega.{arith}
 use borrow.Author.Tests.{lt-ltb, le-ltb}
 use lib.Dec.{eqb}
-use lib.ListN.{length, take, drop, length-append}
-use lib.Seq.{take-append-seam}
+use lib.ListN.{length, take, length-append}
 use Rattle.laws.proofs.Tests.{never}
 use Rattle.meaning.specs.Screen.{problemRefusal}
 use Rattle.dialogue.specs.Written.{written, writtenTo}
-use Rattle.dialogue.proofs.Buffers.{written-fits, to-fits}
+use Rattle.dialogue.proofs.Buffers.{put-front}
 use Rattle.dialogue.proofs.Decimals.{short-decimal}
 use Rattle.grammar.specs.Grammar.{bytes}
 use Rattle.script.specs.declared.Script.{Script}
@@ -28,11 +27,9 @@ use Rattle.rewrite.specs.Says.{ofScript, rewriting}
 abbrev Printed : List ℕ → List ℕ → List ℕ → ℕ → Type 0
 Printed text out held to = (to ≤ length out) × (take to held ≡ rewriting text)
 
--- a text that was put where there is room for all of it stands at the front
-put-front : {held : List ℕ} {to : ℕ} (out t : List ℕ) → length t ≤ length out → (held ≡ written out 0 t) × (to ≡ writtenTo out 0 t) → (to ≤ length out) × (take to held ≡ t)
-put-front out t fits p =
-    let to-is = p .1 ∙ to-fits out t fits in
-    (omega arith, rw (to-is, p .0 ∙ written-fits out t fits) (take-append-seam t (drop (length t) out)))
+-- what was put is printed whole where there is room for it
+put-printed : {held : List ℕ} {to : ℕ} (text out t : List ℕ) → length t ≤ length out → rewriting text ≡ t → (held ≡ written out 0 t) × (to ≡ writtenTo out 0 t) → Printed text out held to
+put-printed text out t fits e p = let f = put-front out t fits p in (omega (arith, f .0), f .1 ∙ sym e)
 
 -- the line of a refusal is no longer than the longest text
 abbrev lineOf : Script → List ℕ
@@ -49,7 +46,7 @@ line-length s n p = omega (arith, length-append (scriptRefusedText (s .number) (
 module _ (text out : List ℕ) (enough : longestText ≤ length out) (held : List ℕ) where
   pub prints-too-long : (to : ℕ) → mostBytes < length text → (held ≡ written out 0 (bytes "too long\n")) × (to ≡ writtenTo out 0 (bytes "too long\n")) → Printed text out held to
   unfolding rewriting bytes
-  prints-too-long to h p = rw (lt-ltb mostBytes (length text) h) (put-front out (bytes "too long\n") (omega arith) p)
+  prints-too-long to h p = put-printed text out (bytes "too long\n") (omega arith) (rw (lt-ltb mostBytes (length text) h)) p
 
   module _ (s : Script) (e : s ≡ scriptIn text) (short : length text ≤ mostBytes) where
     by-script : rewriting text ≡ ofScript s (s .number)
@@ -58,7 +55,7 @@ module _ (text out : List ℕ) (enough : longestText ≤ length out) (held : Lis
 
     pub prints-refused : (to : ℕ) → (s .number ≡ 0 → ⊥) → s .number < 2 ^ 64 → s .place < 2 ^ 64 → (held ≡ written out 0 (lineOf s)) × (to ≡ writtenTo out 0 (lineOf s)) → Printed text out held to
     unfolding ofScript
-    prints-refused to n h k p = rw (by-script ∙ go (s .number) n) (put-front out (lineOf s) (omega (arith, line-length s h k)) p)
+    prints-refused to n h k p = put-printed text out (lineOf s) (omega (arith, line-length s h k)) (by-script ∙ go (s .number) n) p
       where
         go : (k : ℕ) → (k ≡ 0 → ⊥) → ofScript s k ≡ scriptRefusedText k (s .place) ++ bytes "\n"
         go zero m = absurd (m refl)

@@ -9,11 +9,9 @@ use dialogue::put;
 use exchange::put_script_refused;
 use libc::STDIN_FILENO;
 use libc::STDOUT_FILENO;
+use script::BYTES;
 use script::LONGEST_TEXT;
 use script::Written;
-
-// The most bytes that are read.
-const BYTES: usize = 65536;
 
 // Puts what is printed for a text at the front of `out`, and answers how long it is.
 fn rewrite(text: &[u8], out: &mut [u8]) -> usize

@@ -7,11 +7,10 @@ use native.Mathlib.Omega.{arith}
 use borrow.Author.Tests.{le-leb, lt-leb}
 use lib.Dec.{leb}
 use lib.ListN.{length, take, drop, length-append, length-replicate}
-use lib.Seq.{take-append-seam}
 use Rattle.laws.proofs.Lists.{drop-replicate}
 use Rattle.meaning.specs.Screen.{Lent, problemRefusal}
 use Rattle.dialogue.specs.Written.{written, writtenTo}
-use Rattle.dialogue.proofs.Buffers.{written-fits, to-fits}
+use Rattle.dialogue.proofs.Buffers.{written-fits, put-front}
 use Rattle.script.specs.declared.writing.Written.the-variants.{Text, Refused}
 use Rattle.script.specs.Text.{textOf, longestText, orElse, writeRefusal, answered, zeros, roomAfter, Writes}
 use Rattle.script.proofs.Lengths.{text-length}
@@ -31,13 +30,9 @@ pub record Whole (l : Lent) (buffer : List ℕ) (to : ℕ) : Type 0 where
 pub put-whole : (l : Lent) (buffer : List ℕ) (to : ℕ) → problemRefusal l ≡ 0 → (buffer ≡ written (zeros longestText) 0 (textOf l)) × (to ≡ writtenTo (zeros longestText) 0 (textOf l)) → Whole l buffer to
 put-whole l buffer to e p =
     let fits : length (textOf l) ≤ length (zeros longestText) = omega (arith, text-length l e, length-zeros longestText) in
-    let to-is : to ≡ length (textOf l) = p .1 ∙ to-fits (zeros longestText) (textOf l) fits in
+    let f = put-front (zeros longestText) (textOf l) fits p in
     let is : buffer ≡ textOf l ++ drop (length (textOf l)) (zeros longestText) = p .0 ∙ written-fits (zeros longestText) (textOf l) fits in
-    record {
-      to-is = to-is;
-      within = omega (arith, ap length is, length-append (textOf l) (drop (length (textOf l)) (zeros longestText)));
-      front = rw (to-is, is) (take-append-seam (textOf l) (drop (length (textOf l)) (zeros longestText)));
-    }
+    record { to-is = f .0; within = omega (arith, f .0, ap length is, length-append (textOf l) (drop (length (textOf l)) (zeros longestText))); front = f .1 }
 
 module _ (l : Lent) (room : ℕ) where
   -- by the number that refuses it, or 0

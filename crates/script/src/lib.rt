@@ -17,6 +17,9 @@ pub use writing::LONGEST_TEXT;
 pub use writing::Written;
 pub use writing::write_script;
 
+// The most bytes of a script that a program reads.
+pub const BYTES: usize = 65536;
+
 // What reading gives: the refusal's number, or 0, and its place; the events, the alternatives with their triples, and the clauses with
 // their counts. Unused numbers are 0, and all of them where the script is refused.
 pub struct Script {

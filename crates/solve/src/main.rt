@@ -10,9 +10,7 @@ use libc::STDOUT_FILENO;
 use meaning::Answer;
 use problem::CLAUSES;
 use problem::EVENTS;
-
-// The most bytes that are read.
-const BYTES: usize = 65536;
+use script::BYTES;
 
 // The allowance of visits.
 const ALLOWANCE: u32 = 1000000;

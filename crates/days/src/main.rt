@@ -1,4 +1,4 @@
-// Prints the worked days of 01, as A4 amends them, one to a line: the answer, and the lent timetable, picks and reasons as they are left. All of
+// Prints the worked days of 01, as A4 and A6 amend them, one to a line: the answer, and the lent timetable, picks and reasons as they are left. All of
 // that is filled with 7s before each call, so that what was not settled would show.
 ghost use mathlib.Core.Path.{_≡_};
 ghost use Prim.Native.Nat.{_*_, _≤_};
@@ -182,6 +182,32 @@ fn put_ahead(triples: &mut [i32], counts: &mut [u32], c: i32)
     }
 }
 
+// An event against itself, with each fault that its place in the order parts it from: 4 and 5 come before 12, and 6, 7 and 8 after it.
+fn days_with_12() {
+    let one = [1u32];
+    let two = [1u32, 2];
+    let alone = [1, 1, 0];
+    show(b"4 with 12", 2, &alone[..], &two[1..]);
+    let named = [1, 1, 0, 0, 2, 0];
+    show(b"5 with 12", 2, &named[..], &two[..]);
+    let bounded = [0, 1, 100001, 1, 1, 0];
+    show(b"12 with 6", 2, &bounded[..], &two[..]);
+    show_in(b"12 with 7", 2, &alone[..], &one[..], 1000001);
+    let mut times = [7i32; 1];
+    let mut picks = [7u8; PICKS];
+    let mut reasons = [7u8; ROW];
+    show_over(
+        b"12 with 8",
+        2,
+        &alone[..],
+        &one[..],
+        1000,
+        &mut times[..],
+        &mut picks[..],
+        &mut reasons[..],
+    );
+}
+
 // As many events as there may be: without a clause; in a chain, each 100,000 minutes before the next; in a ring, none after the next, and the
 // last a minute before the first.
 fn widest_days() {
@@ -202,5 +228,6 @@ fn main() {
     first_days();
     middle_days();
     last_days();
+    days_with_12();
     widest_days();
 }

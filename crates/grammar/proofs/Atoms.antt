@@ -1,4 +1,5 @@
--- What the grammar keeps of a whole script's pieces: no assert holds more than four bounds, none stands outside an assert, check-sat is read. Assumes nothing.
+-- What the grammar keeps of a whole script's pieces: no assert holds more than four bounds, none stands outside an assert, each stands where the
+-- last name of an atom was its second, check-sat is read. Assumes nothing.
 -- Each state has its mark, and each byte keeps to the marks: tested once by computation, at every state and at one sample of each class of bytes.
 use mathlib.Core.Path.{_≡_, refl, sym, _∙_}
 use mathlib.Core.Bool.{Bool, true, false, _&&_, _||_, not, cond}
@@ -22,28 +23,29 @@ use Rattle.grammar.proofs.Same.{both, kept, by-number, kindNo, same, is
 use Rattle.grammar.proofs.Alike.{samples, agree, alike, after-alike, role-alike, alike-states}
 
 -- ---- the claim
--- a piece of a role is taken where h bounds have begun since the last assert ended, and e says whether check-sat was read
-abbrev pub Taken : Role → ℕ → Bool → (ℕ → Bool → Type 0) → Type 0
-Taken other h e W = W h e
-Taken newName h e W = W h e
-Taken firstName h e W = W h e
-Taken secondName h e W = W h e
-Taken boundDigit h e W = (h < 4) × W (suc h) e
-Taken negatedDigit h e W = (h < 4) × W (suc h) e
-Taken declarationEnd h e W = W h e
-Taken assertEnd h e W = W 0 e
-Taken checkEnd h e W = W h true
+-- a piece of a role is taken where h bounds have begun since the last assert ended, p says whether the last name of an atom was its second, and
+-- e whether check-sat was read
+abbrev pub Taken : Role → ℕ → Bool → Bool → (ℕ → Bool → Bool → Type 0) → Type 0
+Taken other h p e W = W h p e
+Taken newName h p e W = W h p e
+Taken firstName h p e W = W h false e
+Taken secondName h p e W = W h true e
+Taken boundDigit h p e W = (h < 4) × T p × W (suc h) p e
+Taken negatedDigit h p e W = (h < 4) × T p × W (suc h) p e
+Taken declarationEnd h p e W = W h p e
+Taken assertEnd h p e W = W 0 p e
+Taken checkEnd h p e W = W h p true
 
 -- all of them are, and at their end no bound is left over and check-sat was read
-abbrev pub Whole : ℕ → Bool → List Piece → Type 0
-Whole h e [] = (h ≡ 0) × T e
-Whole h e (p ∷ ps) = Taken (p .role) h e (λ h′ e′. Whole h′ e′ ps)
+abbrev pub Whole : ℕ → Bool → Bool → List Piece → Type 0
+Whole h p e [] = (h ≡ 0) × T e
+Whole h p e (q ∷ ps) = Taken (q .role) h p e (λ h′ p′ e′. Whole h′ p′ e′ ps)
 
 -- ---- the marks
 -- of a state: the most bounds that can have begun since the last assert ended; the role of the digits that go on there, 1 where a bound may begin,
--- 0 where no digit may come; 1 once check-sat was read; and the states that may follow
+-- 0 where no digit may come; 1 where the last name of an atom was surely its second; 1 once check-sat was read; and the states that may follow
 abbrev Mark : Type 0
-Mark = ℕ × ℕ × ℕ × List ℕ
+Mark = ℕ × ℕ × ℕ × ℕ × List ℕ
 
 abbrev begun : Mark → ℕ
 begun m = m .0
@@ -51,51 +53,54 @@ begun m = m .0
 abbrev run : Mark → ℕ
 run m = m .1
 
+abbrev paired : Mark → ℕ
+paired m = m .2
+
 abbrev checked : Mark → ℕ
-checked m = m .2
+checked m = m .3
 
 abbrev nexts : Mark → List ℕ
-nexts m = m .3
+nexts m = m .4
 
 -- for each state (tools/automaton marks)
 unfoldable pub marks : List Mark
 marks =
-    (0, 0, 0, []) ∷ (0, 0, 0, 2 ∷ 3 ∷ 4 ∷ []) ∷ (0, 0, 0, 2 ∷ 3 ∷ 4 ∷ []) ∷ (0, 0, 0, 3 ∷ 5 ∷ 6 ∷ []) ∷ (0, 0, 0, 2 ∷ 4 ∷ []) ∷ (0, 0, 0, 3 ∷ 5 ∷ []) ∷ (0, 0, 0, 7 ∷ []) ∷ (0, 0, 0, 8 ∷ []) ∷
-    (0, 0, 0, 9 ∷ []) ∷ (0, 0, 0, 10 ∷ []) ∷ (0, 0, 0, 11 ∷ []) ∷ (0, 0, 0, 12 ∷ []) ∷ (0, 0, 0, 13 ∷ []) ∷ (0, 0, 0, 14 ∷ []) ∷ (0, 0, 0, 15 ∷ 16 ∷ []) ∷ (0, 0, 0, 15 ∷ 16 ∷ 17 ∷ []) ∷
-    (0, 0, 0, 15 ∷ 16 ∷ []) ∷ (0, 0, 0, 18 ∷ []) ∷ (0, 0, 0, 19 ∷ []) ∷ (0, 0, 0, 20 ∷ []) ∷ (0, 0, 0, 21 ∷ []) ∷ (0, 0, 0, 22 ∷ []) ∷ (0, 0, 0, 22 ∷ 23 ∷ 24 ∷ []) ∷ (0, 0, 0, 25 ∷ 26 ∷ 27 ∷ []) ∷
-    (0, 0, 0, 22 ∷ 24 ∷ []) ∷ (0, 0, 0, 25 ∷ 26 ∷ 27 ∷ []) ∷ (0, 0, 0, 26 ∷ 28 ∷ 29 ∷ 30 ∷ 31 ∷ []) ∷ (0, 0, 0, 25 ∷ 27 ∷ []) ∷ (0, 0, 0, 26 ∷ 28 ∷ []) ∷ (0, 0, 0, 32 ∷ []) ∷ (0, 0, 0, 33 ∷ []) ∷ (0, 0, 0, 34 ∷ []) ∷
-    (0, 0, 0, 35 ∷ []) ∷ (0, 0, 0, 36 ∷ []) ∷ (0, 0, 0, 37 ∷ []) ∷ (0, 0, 0, 38 ∷ []) ∷ (0, 0, 0, 39 ∷ []) ∷ (0, 0, 0, 40 ∷ []) ∷ (0, 0, 0, 41 ∷ []) ∷ (0, 0, 0, 42 ∷ []) ∷
-    (0, 0, 0, 43 ∷ []) ∷ (0, 0, 0, 44 ∷ []) ∷ (0, 0, 0, 45 ∷ []) ∷ (0, 0, 0, 46 ∷ []) ∷ (0, 0, 0, 47 ∷ 48 ∷ 49 ∷ []) ∷ (0, 0, 0, 50 ∷ []) ∷ (0, 0, 0, 51 ∷ []) ∷ (0, 0, 0, 47 ∷ 48 ∷ 49 ∷ 52 ∷ []) ∷
-    (0, 0, 0, 48 ∷ 53 ∷ 54 ∷ 55 ∷ []) ∷ (0, 0, 0, 47 ∷ 49 ∷ []) ∷ (0, 0, 0, 56 ∷ []) ∷ (0, 0, 0, 57 ∷ []) ∷ (0, 0, 0, 58 ∷ []) ∷ (0, 0, 0, 48 ∷ 53 ∷ []) ∷ (0, 0, 0, 59 ∷ []) ∷ (0, 0, 0, 60 ∷ []) ∷
-    (0, 0, 0, 61 ∷ []) ∷ (0, 0, 0, 62 ∷ 63 ∷ []) ∷ (0, 0, 0, 64 ∷ []) ∷ (0, 0, 0, 65 ∷ 66 ∷ 67 ∷ []) ∷ (0, 0, 0, 68 ∷ 69 ∷ 70 ∷ []) ∷ (0, 0, 0, 61 ∷ 71 ∷ 72 ∷ []) ∷ (0, 0, 0, 73 ∷ []) ∷ (0, 0, 0, 74 ∷ []) ∷
-    (0, 0, 0, 75 ∷ []) ∷ (0, 0, 0, 65 ∷ 66 ∷ 67 ∷ []) ∷ (0, 0, 0, 66 ∷ 76 ∷ 77 ∷ []) ∷ (0, 0, 0, 65 ∷ 67 ∷ []) ∷ (0, 0, 0, 68 ∷ 69 ∷ 70 ∷ []) ∷ (0, 0, 0, 69 ∷ 78 ∷ 79 ∷ []) ∷ (0, 0, 0, 68 ∷ 70 ∷ []) ∷ (0, 0, 1, 71 ∷ 80 ∷ []) ∷
-    (0, 0, 0, 61 ∷ 72 ∷ []) ∷ (0, 0, 0, 81 ∷ []) ∷ (0, 0, 0, 82 ∷ []) ∷ (0, 0, 0, 83 ∷ []) ∷ (0, 0, 0, 84 ∷ 85 ∷ []) ∷ (0, 0, 0, 66 ∷ 77 ∷ []) ∷ (0, 0, 0, 69 ∷ 78 ∷ []) ∷ (0, 0, 0, 86 ∷ []) ∷
-    (0, 0, 1, 71 ∷ 80 ∷ []) ∷ (0, 0, 0, 87 ∷ []) ∷ (0, 0, 0, 88 ∷ 89 ∷ []) ∷ (4, 0, 0, 23 ∷ 83 ∷ 90 ∷ []) ∷ (0, 0, 0, 84 ∷ 85 ∷ 91 ∷ []) ∷ (0, 0, 0, 84 ∷ 85 ∷ []) ∷ (0, 0, 0, 92 ∷ 93 ∷ 94 ∷ []) ∷ (0, 0, 0, 95 ∷ []) ∷
-    (0, 0, 0, 88 ∷ 89 ∷ 96 ∷ []) ∷ (0, 0, 0, 88 ∷ 89 ∷ []) ∷ (4, 0, 0, 83 ∷ 90 ∷ []) ∷ (0, 0, 0, 91 ∷ 97 ∷ 98 ∷ []) ∷ (0, 0, 0, 92 ∷ 93 ∷ 94 ∷ []) ∷ (0, 0, 0, 93 ∷ 99 ∷ 100 ∷ []) ∷ (0, 0, 0, 92 ∷ 94 ∷ []) ∷ (0, 0, 0, 101 ∷ 102 ∷ []) ∷
-    (0, 0, 0, 96 ∷ 103 ∷ 104 ∷ 105 ∷ []) ∷ (0, 0, 0, 97 ∷ 98 ∷ 106 ∷ []) ∷ (0, 0, 0, 97 ∷ 98 ∷ []) ∷ (0, 0, 0, 107 ∷ 108 ∷ []) ∷ (0, 0, 0, 93 ∷ 100 ∷ []) ∷ (0, 0, 0, 101 ∷ 102 ∷ 109 ∷ []) ∷ (0, 0, 0, 101 ∷ 102 ∷ []) ∷ (0, 0, 0, 103 ∷ 104 ∷ 105 ∷ []) ∷
-    (0, 0, 0, 110 ∷ 111 ∷ 112 ∷ []) ∷ (0, 0, 0, 103 ∷ 105 ∷ []) ∷ (0, 0, 0, 106 ∷ 113 ∷ 114 ∷ 115 ∷ []) ∷ (0, 0, 0, 107 ∷ 108 ∷ 116 ∷ []) ∷ (0, 0, 0, 107 ∷ 108 ∷ []) ∷ (0, 0, 0, 109 ∷ 111 ∷ 117 ∷ []) ∷ (0, 0, 0, 110 ∷ 111 ∷ 112 ∷ []) ∷ (0, 0, 0, 111 ∷ 117 ∷ 118 ∷ []) ∷
-    (0, 0, 0, 110 ∷ 112 ∷ []) ∷ (0, 0, 0, 113 ∷ 114 ∷ 115 ∷ []) ∷ (0, 1, 0, 119 ∷ 120 ∷ 121 ∷ 122 ∷ 123 ∷ []) ∷ (0, 0, 0, 113 ∷ 115 ∷ []) ∷ (0, 0, 0, 116 ∷ 124 ∷ 125 ∷ []) ∷ (0, 0, 0, 111 ∷ 117 ∷ []) ∷ (0, 0, 0, 126 ∷ []) ∷ (0, 1, 0, 119 ∷ 120 ∷ 121 ∷ 122 ∷ 123 ∷ []) ∷
-    (0, 0, 0, 120 ∷ 127 ∷ 128 ∷ []) ∷ (4, 0, 0, 83 ∷ 121 ∷ 129 ∷ []) ∷ (1, 4, 0, 83 ∷ 121 ∷ 122 ∷ 129 ∷ []) ∷ (0, 0, 0, 119 ∷ 123 ∷ []) ∷ (0, 0, 0, 124 ∷ 125 ∷ 130 ∷ []) ∷ (0, 0, 0, 124 ∷ 125 ∷ []) ∷ (0, 0, 0, 131 ∷ []) ∷ (0, 0, 0, 132 ∷ 133 ∷ []) ∷
-    (0, 0, 0, 120 ∷ 128 ∷ []) ∷ (4, 0, 0, 121 ∷ 129 ∷ []) ∷ (0, 0, 0, 130 ∷ 134 ∷ 135 ∷ 136 ∷ []) ∷ (0, 0, 0, 23 ∷ 131 ∷ 137 ∷ []) ∷ (0, 1, 0, 132 ∷ 133 ∷ 138 ∷ 139 ∷ []) ∷ (0, 0, 0, 132 ∷ 133 ∷ []) ∷ (0, 0, 0, 134 ∷ 135 ∷ 136 ∷ []) ∷ (0, 1, 0, 140 ∷ 141 ∷ 142 ∷ 143 ∷ 144 ∷ []) ∷
-    (0, 0, 0, 134 ∷ 136 ∷ []) ∷ (0, 0, 0, 131 ∷ 137 ∷ []) ∷ (4, 0, 0, 121 ∷ 138 ∷ 145 ∷ []) ∷ (1, 5, 0, 121 ∷ 138 ∷ 139 ∷ 145 ∷ []) ∷ (0, 1, 0, 140 ∷ 141 ∷ 142 ∷ 143 ∷ 144 ∷ []) ∷ (0, 0, 0, 141 ∷ 146 ∷ 147 ∷ []) ∷ (1, 0, 0, 142 ∷ 148 ∷ 149 ∷ []) ∷ (1, 4, 0, 142 ∷ 143 ∷ 148 ∷ 149 ∷ []) ∷
-    (0, 0, 0, 140 ∷ 144 ∷ []) ∷ (4, 0, 0, 138 ∷ 145 ∷ []) ∷ (0, 0, 0, 150 ∷ 151 ∷ []) ∷ (0, 0, 0, 141 ∷ 147 ∷ []) ∷ (1, 0, 0, 152 ∷ 153 ∷ 154 ∷ []) ∷ (1, 0, 0, 142 ∷ 149 ∷ []) ∷ (0, 1, 0, 150 ∷ 151 ∷ 155 ∷ 156 ∷ []) ∷ (0, 0, 0, 150 ∷ 151 ∷ []) ∷
-    (1, 0, 0, 152 ∷ 153 ∷ 154 ∷ []) ∷ (1, 0, 0, 153 ∷ 157 ∷ 158 ∷ []) ∷ (1, 0, 0, 152 ∷ 154 ∷ []) ∷ (1, 0, 0, 142 ∷ 155 ∷ 159 ∷ []) ∷ (1, 5, 0, 142 ∷ 155 ∷ 156 ∷ 159 ∷ []) ∷ (1, 0, 0, 153 ∷ 157 ∷ []) ∷ (1, 0, 0, 160 ∷ []) ∷ (1, 0, 0, 155 ∷ 159 ∷ []) ∷
-    (1, 0, 0, 161 ∷ 162 ∷ 163 ∷ []) ∷ (1, 0, 0, 161 ∷ 162 ∷ 163 ∷ []) ∷ (1, 0, 0, 162 ∷ 164 ∷ 165 ∷ []) ∷ (1, 0, 0, 161 ∷ 163 ∷ []) ∷ (1, 0, 0, 166 ∷ 167 ∷ []) ∷ (1, 0, 0, 162 ∷ 165 ∷ []) ∷ (1, 0, 0, 166 ∷ 167 ∷ 168 ∷ []) ∷ (1, 0, 0, 166 ∷ 167 ∷ []) ∷
-    (1, 0, 0, 168 ∷ 169 ∷ 170 ∷ []) ∷ (1, 0, 0, 169 ∷ 170 ∷ 171 ∷ []) ∷ (1, 0, 0, 169 ∷ 170 ∷ []) ∷ (1, 0, 0, 171 ∷ 172 ∷ 173 ∷ 174 ∷ []) ∷ (1, 0, 0, 172 ∷ 173 ∷ 174 ∷ []) ∷ (1, 1, 0, 175 ∷ 176 ∷ 177 ∷ 178 ∷ 179 ∷ []) ∷ (1, 0, 0, 172 ∷ 174 ∷ []) ∷ (1, 1, 0, 175 ∷ 176 ∷ 177 ∷ 178 ∷ 179 ∷ []) ∷
-    (1, 0, 0, 176 ∷ 180 ∷ 181 ∷ []) ∷ (2, 0, 0, 177 ∷ 182 ∷ 183 ∷ []) ∷ (2, 4, 0, 177 ∷ 178 ∷ 182 ∷ 183 ∷ []) ∷ (1, 0, 0, 175 ∷ 179 ∷ []) ∷ (1, 0, 0, 184 ∷ 185 ∷ []) ∷ (1, 0, 0, 176 ∷ 181 ∷ []) ∷ (2, 0, 0, 83 ∷ 186 ∷ 187 ∷ 188 ∷ []) ∷ (2, 0, 0, 177 ∷ 183 ∷ []) ∷
-    (1, 1, 0, 184 ∷ 185 ∷ 189 ∷ 190 ∷ []) ∷ (1, 0, 0, 184 ∷ 185 ∷ []) ∷ (2, 0, 0, 83 ∷ 186 ∷ 187 ∷ 188 ∷ []) ∷ (2, 0, 0, 187 ∷ 191 ∷ 192 ∷ []) ∷ (2, 0, 0, 186 ∷ 188 ∷ []) ∷ (2, 0, 0, 177 ∷ 189 ∷ 193 ∷ []) ∷ (2, 5, 0, 177 ∷ 189 ∷ 190 ∷ 193 ∷ []) ∷ (2, 0, 0, 187 ∷ 191 ∷ []) ∷
-    (2, 0, 0, 194 ∷ []) ∷ (2, 0, 0, 189 ∷ 193 ∷ []) ∷ (2, 0, 0, 195 ∷ 196 ∷ 197 ∷ []) ∷ (2, 0, 0, 195 ∷ 196 ∷ 197 ∷ []) ∷ (2, 0, 0, 196 ∷ 198 ∷ 199 ∷ []) ∷ (2, 0, 0, 195 ∷ 197 ∷ []) ∷ (2, 0, 0, 200 ∷ 201 ∷ []) ∷ (2, 0, 0, 196 ∷ 199 ∷ []) ∷
-    (2, 0, 0, 200 ∷ 201 ∷ 202 ∷ []) ∷ (2, 0, 0, 200 ∷ 201 ∷ []) ∷ (2, 0, 0, 202 ∷ 203 ∷ 204 ∷ []) ∷ (2, 0, 0, 203 ∷ 204 ∷ 205 ∷ []) ∷ (2, 0, 0, 203 ∷ 204 ∷ []) ∷ (2, 0, 0, 205 ∷ 206 ∷ 207 ∷ 208 ∷ []) ∷ (2, 0, 0, 206 ∷ 207 ∷ 208 ∷ []) ∷ (2, 1, 0, 209 ∷ 210 ∷ 211 ∷ 212 ∷ 213 ∷ []) ∷
-    (2, 0, 0, 206 ∷ 208 ∷ []) ∷ (2, 1, 0, 209 ∷ 210 ∷ 211 ∷ 212 ∷ 213 ∷ []) ∷ (2, 0, 0, 210 ∷ 214 ∷ 215 ∷ []) ∷ (3, 0, 0, 211 ∷ 216 ∷ 217 ∷ []) ∷ (3, 4, 0, 211 ∷ 212 ∷ 216 ∷ 217 ∷ []) ∷ (2, 0, 0, 209 ∷ 213 ∷ []) ∷ (2, 0, 0, 218 ∷ 219 ∷ []) ∷ (2, 0, 0, 210 ∷ 215 ∷ []) ∷
-    (3, 0, 0, 83 ∷ 220 ∷ 221 ∷ 222 ∷ []) ∷ (3, 0, 0, 211 ∷ 217 ∷ []) ∷ (2, 1, 0, 218 ∷ 219 ∷ 223 ∷ 224 ∷ []) ∷ (2, 0, 0, 218 ∷ 219 ∷ []) ∷ (3, 0, 0, 83 ∷ 220 ∷ 221 ∷ 222 ∷ []) ∷ (3, 0, 0, 221 ∷ 225 ∷ 226 ∷ []) ∷ (3, 0, 0, 220 ∷ 222 ∷ []) ∷ (3, 0, 0, 211 ∷ 223 ∷ 227 ∷ []) ∷
-    (3, 5, 0, 211 ∷ 223 ∷ 224 ∷ 227 ∷ []) ∷ (3, 0, 0, 221 ∷ 225 ∷ []) ∷ (3, 0, 0, 228 ∷ []) ∷ (3, 0, 0, 223 ∷ 227 ∷ []) ∷ (3, 0, 0, 229 ∷ 230 ∷ 231 ∷ []) ∷ (3, 0, 0, 229 ∷ 230 ∷ 231 ∷ []) ∷ (3, 0, 0, 230 ∷ 232 ∷ 233 ∷ []) ∷ (3, 0, 0, 229 ∷ 231 ∷ []) ∷
-    (3, 0, 0, 234 ∷ 235 ∷ []) ∷ (3, 0, 0, 230 ∷ 233 ∷ []) ∷ (3, 0, 0, 234 ∷ 235 ∷ 236 ∷ []) ∷ (3, 0, 0, 234 ∷ 235 ∷ []) ∷ (3, 0, 0, 236 ∷ 237 ∷ 238 ∷ []) ∷ (3, 0, 0, 237 ∷ 238 ∷ 239 ∷ []) ∷ (3, 0, 0, 237 ∷ 238 ∷ []) ∷ (3, 0, 0, 239 ∷ 240 ∷ 241 ∷ 242 ∷ []) ∷
-    (3, 0, 0, 240 ∷ 241 ∷ 242 ∷ []) ∷ (3, 1, 0, 138 ∷ 243 ∷ 244 ∷ 245 ∷ 246 ∷ []) ∷ (3, 0, 0, 240 ∷ 242 ∷ []) ∷ (3, 1, 0, 138 ∷ 243 ∷ 244 ∷ 245 ∷ 246 ∷ []) ∷ (3, 0, 0, 244 ∷ 247 ∷ 248 ∷ []) ∷ (4, 4, 0, 121 ∷ 138 ∷ 145 ∷ 245 ∷ []) ∷ (3, 0, 0, 243 ∷ 246 ∷ []) ∷ (3, 0, 0, 249 ∷ 250 ∷ []) ∷
-    (3, 0, 0, 244 ∷ 248 ∷ []) ∷ (3, 1, 0, 249 ∷ 250 ∷ 251 ∷ 252 ∷ []) ∷ (3, 0, 0, 249 ∷ 250 ∷ []) ∷ (4, 0, 0, 138 ∷ 251 ∷ 253 ∷ []) ∷ (4, 5, 0, 138 ∷ 251 ∷ 252 ∷ 253 ∷ []) ∷ (4, 0, 0, 251 ∷ 253 ∷ []) ∷ []
+    (0, 0, 0, 0, []) ∷ (0, 0, 0, 0, 2 ∷ 3 ∷ 4 ∷ []) ∷ (0, 0, 0, 0, 2 ∷ 3 ∷ 4 ∷ []) ∷ (0, 0, 0, 0, 3 ∷ 5 ∷ 6 ∷ []) ∷ (0, 0, 0, 0, 2 ∷ 4 ∷ []) ∷ (0, 0, 0, 0, 3 ∷ 5 ∷ []) ∷ (0, 0, 0, 0, 7 ∷ []) ∷ (0, 0, 0, 0, 8 ∷ []) ∷
+    (0, 0, 0, 0, 9 ∷ []) ∷ (0, 0, 0, 0, 10 ∷ []) ∷ (0, 0, 0, 0, 11 ∷ []) ∷ (0, 0, 0, 0, 12 ∷ []) ∷ (0, 0, 0, 0, 13 ∷ []) ∷ (0, 0, 0, 0, 14 ∷ []) ∷ (0, 0, 0, 0, 15 ∷ 16 ∷ []) ∷ (0, 0, 0, 0, 15 ∷ 16 ∷ 17 ∷ []) ∷
+    (0, 0, 0, 0, 15 ∷ 16 ∷ []) ∷ (0, 0, 0, 0, 18 ∷ []) ∷ (0, 0, 0, 0, 19 ∷ []) ∷ (0, 0, 0, 0, 20 ∷ []) ∷ (0, 0, 0, 0, 21 ∷ []) ∷ (0, 0, 0, 0, 22 ∷ []) ∷ (0, 0, 0, 0, 22 ∷ 23 ∷ 24 ∷ []) ∷ (0, 0, 0, 0, 25 ∷ 26 ∷ 27 ∷ []) ∷
+    (0, 0, 0, 0, 22 ∷ 24 ∷ []) ∷ (0, 0, 0, 0, 25 ∷ 26 ∷ 27 ∷ []) ∷ (0, 0, 0, 0, 26 ∷ 28 ∷ 29 ∷ 30 ∷ 31 ∷ []) ∷ (0, 0, 0, 0, 25 ∷ 27 ∷ []) ∷ (0, 0, 0, 0, 26 ∷ 28 ∷ []) ∷ (0, 0, 0, 0, 32 ∷ []) ∷ (0, 0, 0, 0, 33 ∷ []) ∷ (0, 0, 0, 0, 34 ∷ []) ∷
+    (0, 0, 0, 0, 35 ∷ []) ∷ (0, 0, 0, 0, 36 ∷ []) ∷ (0, 0, 0, 0, 37 ∷ []) ∷ (0, 0, 0, 0, 38 ∷ []) ∷ (0, 0, 0, 0, 39 ∷ []) ∷ (0, 0, 0, 0, 40 ∷ []) ∷ (0, 0, 0, 0, 41 ∷ []) ∷ (0, 0, 0, 0, 42 ∷ []) ∷
+    (0, 0, 0, 0, 43 ∷ []) ∷ (0, 0, 0, 0, 44 ∷ []) ∷ (0, 0, 0, 0, 45 ∷ []) ∷ (0, 0, 0, 0, 46 ∷ []) ∷ (0, 0, 0, 0, 47 ∷ 48 ∷ 49 ∷ []) ∷ (0, 0, 0, 0, 50 ∷ []) ∷ (0, 0, 0, 0, 51 ∷ []) ∷ (0, 0, 0, 0, 47 ∷ 48 ∷ 49 ∷ 52 ∷ []) ∷
+    (0, 0, 0, 0, 48 ∷ 53 ∷ 54 ∷ 55 ∷ []) ∷ (0, 0, 0, 0, 47 ∷ 49 ∷ []) ∷ (0, 0, 0, 0, 56 ∷ []) ∷ (0, 0, 0, 0, 57 ∷ []) ∷ (0, 0, 0, 0, 58 ∷ []) ∷ (0, 0, 0, 0, 48 ∷ 53 ∷ []) ∷ (0, 0, 0, 0, 59 ∷ []) ∷ (0, 0, 0, 0, 60 ∷ []) ∷
+    (0, 0, 0, 0, 61 ∷ []) ∷ (0, 0, 0, 0, 62 ∷ 63 ∷ []) ∷ (0, 0, 0, 0, 64 ∷ []) ∷ (0, 0, 0, 0, 65 ∷ 66 ∷ 67 ∷ []) ∷ (0, 0, 0, 0, 68 ∷ 69 ∷ 70 ∷ []) ∷ (0, 0, 0, 0, 61 ∷ 71 ∷ 72 ∷ []) ∷ (0, 0, 0, 0, 73 ∷ []) ∷ (0, 0, 0, 0, 74 ∷ []) ∷
+    (0, 0, 0, 0, 75 ∷ []) ∷ (0, 0, 0, 0, 65 ∷ 66 ∷ 67 ∷ []) ∷ (0, 0, 0, 0, 66 ∷ 76 ∷ 77 ∷ []) ∷ (0, 0, 0, 0, 65 ∷ 67 ∷ []) ∷ (0, 0, 0, 0, 68 ∷ 69 ∷ 70 ∷ []) ∷ (0, 0, 0, 0, 69 ∷ 78 ∷ 79 ∷ []) ∷ (0, 0, 0, 0, 68 ∷ 70 ∷ []) ∷ (0, 0, 0, 1, 71 ∷ 80 ∷ []) ∷
+    (0, 0, 0, 0, 61 ∷ 72 ∷ []) ∷ (0, 0, 0, 0, 81 ∷ []) ∷ (0, 0, 0, 0, 82 ∷ []) ∷ (0, 0, 0, 0, 83 ∷ []) ∷ (0, 0, 0, 0, 84 ∷ 85 ∷ []) ∷ (0, 0, 0, 0, 66 ∷ 77 ∷ []) ∷ (0, 0, 0, 0, 69 ∷ 78 ∷ []) ∷ (0, 0, 0, 0, 86 ∷ []) ∷
+    (0, 0, 0, 1, 71 ∷ 80 ∷ []) ∷ (0, 0, 0, 0, 87 ∷ []) ∷ (0, 0, 0, 0, 88 ∷ 89 ∷ []) ∷ (4, 0, 0, 0, 23 ∷ 83 ∷ 90 ∷ []) ∷ (0, 0, 0, 0, 84 ∷ 85 ∷ 91 ∷ []) ∷ (0, 0, 0, 0, 84 ∷ 85 ∷ []) ∷ (0, 0, 0, 0, 92 ∷ 93 ∷ 94 ∷ []) ∷ (0, 0, 0, 0, 95 ∷ []) ∷
+    (0, 0, 0, 0, 88 ∷ 89 ∷ 96 ∷ []) ∷ (0, 0, 0, 0, 88 ∷ 89 ∷ []) ∷ (4, 0, 0, 0, 83 ∷ 90 ∷ []) ∷ (0, 0, 0, 0, 91 ∷ 97 ∷ 98 ∷ []) ∷ (0, 0, 0, 0, 92 ∷ 93 ∷ 94 ∷ []) ∷ (0, 0, 0, 0, 93 ∷ 99 ∷ 100 ∷ []) ∷ (0, 0, 0, 0, 92 ∷ 94 ∷ []) ∷ (0, 0, 0, 0, 101 ∷ 102 ∷ []) ∷
+    (0, 0, 0, 0, 96 ∷ 103 ∷ 104 ∷ 105 ∷ []) ∷ (0, 0, 0, 0, 97 ∷ 98 ∷ 106 ∷ []) ∷ (0, 0, 0, 0, 97 ∷ 98 ∷ []) ∷ (0, 0, 0, 0, 107 ∷ 108 ∷ []) ∷ (0, 0, 0, 0, 93 ∷ 100 ∷ []) ∷ (0, 0, 0, 0, 101 ∷ 102 ∷ 109 ∷ []) ∷ (0, 0, 0, 0, 101 ∷ 102 ∷ []) ∷ (0, 0, 0, 0, 103 ∷ 104 ∷ 105 ∷ []) ∷
+    (0, 0, 0, 0, 110 ∷ 111 ∷ 112 ∷ []) ∷ (0, 0, 0, 0, 103 ∷ 105 ∷ []) ∷ (0, 0, 1, 0, 106 ∷ 113 ∷ 114 ∷ 115 ∷ []) ∷ (0, 0, 0, 0, 107 ∷ 108 ∷ 116 ∷ []) ∷ (0, 0, 0, 0, 107 ∷ 108 ∷ []) ∷ (0, 0, 0, 0, 109 ∷ 111 ∷ 117 ∷ []) ∷ (0, 0, 0, 0, 110 ∷ 111 ∷ 112 ∷ []) ∷ (0, 0, 0, 0, 111 ∷ 117 ∷ 118 ∷ []) ∷
+    (0, 0, 0, 0, 110 ∷ 112 ∷ []) ∷ (0, 0, 1, 0, 113 ∷ 114 ∷ 115 ∷ []) ∷ (0, 1, 1, 0, 119 ∷ 120 ∷ 121 ∷ 122 ∷ 123 ∷ []) ∷ (0, 0, 1, 0, 113 ∷ 115 ∷ []) ∷ (0, 0, 0, 0, 116 ∷ 124 ∷ 125 ∷ []) ∷ (0, 0, 0, 0, 111 ∷ 117 ∷ []) ∷ (0, 0, 0, 0, 126 ∷ []) ∷ (0, 1, 1, 0, 119 ∷ 120 ∷ 121 ∷ 122 ∷ 123 ∷ []) ∷
+    (0, 0, 1, 0, 120 ∷ 127 ∷ 128 ∷ []) ∷ (4, 0, 1, 0, 83 ∷ 121 ∷ 129 ∷ []) ∷ (1, 4, 1, 0, 83 ∷ 121 ∷ 122 ∷ 129 ∷ []) ∷ (0, 0, 1, 0, 119 ∷ 123 ∷ []) ∷ (0, 0, 0, 0, 124 ∷ 125 ∷ 130 ∷ []) ∷ (0, 0, 0, 0, 124 ∷ 125 ∷ []) ∷ (0, 0, 0, 0, 131 ∷ []) ∷ (0, 0, 1, 0, 132 ∷ 133 ∷ []) ∷
+    (0, 0, 1, 0, 120 ∷ 128 ∷ []) ∷ (4, 0, 1, 0, 121 ∷ 129 ∷ []) ∷ (0, 0, 1, 0, 130 ∷ 134 ∷ 135 ∷ 136 ∷ []) ∷ (0, 0, 0, 0, 23 ∷ 131 ∷ 137 ∷ []) ∷ (0, 1, 1, 0, 132 ∷ 133 ∷ 138 ∷ 139 ∷ []) ∷ (0, 0, 1, 0, 132 ∷ 133 ∷ []) ∷ (0, 0, 1, 0, 134 ∷ 135 ∷ 136 ∷ []) ∷ (0, 1, 1, 0, 140 ∷ 141 ∷ 142 ∷ 143 ∷ 144 ∷ []) ∷
+    (0, 0, 1, 0, 134 ∷ 136 ∷ []) ∷ (0, 0, 0, 0, 131 ∷ 137 ∷ []) ∷ (4, 0, 1, 0, 121 ∷ 138 ∷ 145 ∷ []) ∷ (1, 5, 1, 0, 121 ∷ 138 ∷ 139 ∷ 145 ∷ []) ∷ (0, 1, 1, 0, 140 ∷ 141 ∷ 142 ∷ 143 ∷ 144 ∷ []) ∷ (0, 0, 1, 0, 141 ∷ 146 ∷ 147 ∷ []) ∷ (1, 0, 1, 0, 142 ∷ 148 ∷ 149 ∷ []) ∷ (1, 4, 1, 0, 142 ∷ 143 ∷ 148 ∷ 149 ∷ []) ∷
+    (0, 0, 1, 0, 140 ∷ 144 ∷ []) ∷ (4, 0, 1, 0, 138 ∷ 145 ∷ []) ∷ (0, 0, 1, 0, 150 ∷ 151 ∷ []) ∷ (0, 0, 1, 0, 141 ∷ 147 ∷ []) ∷ (1, 0, 1, 0, 152 ∷ 153 ∷ 154 ∷ []) ∷ (1, 0, 1, 0, 142 ∷ 149 ∷ []) ∷ (0, 1, 1, 0, 150 ∷ 151 ∷ 155 ∷ 156 ∷ []) ∷ (0, 0, 1, 0, 150 ∷ 151 ∷ []) ∷
+    (1, 0, 1, 0, 152 ∷ 153 ∷ 154 ∷ []) ∷ (1, 0, 1, 0, 153 ∷ 157 ∷ 158 ∷ []) ∷ (1, 0, 1, 0, 152 ∷ 154 ∷ []) ∷ (1, 0, 1, 0, 142 ∷ 155 ∷ 159 ∷ []) ∷ (1, 5, 1, 0, 142 ∷ 155 ∷ 156 ∷ 159 ∷ []) ∷ (1, 0, 1, 0, 153 ∷ 157 ∷ []) ∷ (1, 0, 1, 0, 160 ∷ []) ∷ (1, 0, 1, 0, 155 ∷ 159 ∷ []) ∷
+    (1, 0, 1, 0, 161 ∷ 162 ∷ 163 ∷ []) ∷ (1, 0, 1, 0, 161 ∷ 162 ∷ 163 ∷ []) ∷ (1, 0, 1, 0, 162 ∷ 164 ∷ 165 ∷ []) ∷ (1, 0, 1, 0, 161 ∷ 163 ∷ []) ∷ (1, 0, 1, 0, 166 ∷ 167 ∷ []) ∷ (1, 0, 1, 0, 162 ∷ 165 ∷ []) ∷ (1, 0, 1, 0, 166 ∷ 167 ∷ 168 ∷ []) ∷ (1, 0, 1, 0, 166 ∷ 167 ∷ []) ∷
+    (1, 0, 0, 0, 168 ∷ 169 ∷ 170 ∷ []) ∷ (1, 0, 0, 0, 169 ∷ 170 ∷ 171 ∷ []) ∷ (1, 0, 0, 0, 169 ∷ 170 ∷ []) ∷ (1, 0, 1, 0, 171 ∷ 172 ∷ 173 ∷ 174 ∷ []) ∷ (1, 0, 1, 0, 172 ∷ 173 ∷ 174 ∷ []) ∷ (1, 1, 1, 0, 175 ∷ 176 ∷ 177 ∷ 178 ∷ 179 ∷ []) ∷ (1, 0, 1, 0, 172 ∷ 174 ∷ []) ∷ (1, 1, 1, 0, 175 ∷ 176 ∷ 177 ∷ 178 ∷ 179 ∷ []) ∷
+    (1, 0, 1, 0, 176 ∷ 180 ∷ 181 ∷ []) ∷ (2, 0, 1, 0, 177 ∷ 182 ∷ 183 ∷ []) ∷ (2, 4, 1, 0, 177 ∷ 178 ∷ 182 ∷ 183 ∷ []) ∷ (1, 0, 1, 0, 175 ∷ 179 ∷ []) ∷ (1, 0, 1, 0, 184 ∷ 185 ∷ []) ∷ (1, 0, 1, 0, 176 ∷ 181 ∷ []) ∷ (2, 0, 1, 0, 83 ∷ 186 ∷ 187 ∷ 188 ∷ []) ∷ (2, 0, 1, 0, 177 ∷ 183 ∷ []) ∷
+    (1, 1, 1, 0, 184 ∷ 185 ∷ 189 ∷ 190 ∷ []) ∷ (1, 0, 1, 0, 184 ∷ 185 ∷ []) ∷ (2, 0, 1, 0, 83 ∷ 186 ∷ 187 ∷ 188 ∷ []) ∷ (2, 0, 1, 0, 187 ∷ 191 ∷ 192 ∷ []) ∷ (2, 0, 1, 0, 186 ∷ 188 ∷ []) ∷ (2, 0, 1, 0, 177 ∷ 189 ∷ 193 ∷ []) ∷ (2, 5, 1, 0, 177 ∷ 189 ∷ 190 ∷ 193 ∷ []) ∷ (2, 0, 1, 0, 187 ∷ 191 ∷ []) ∷
+    (2, 0, 1, 0, 194 ∷ []) ∷ (2, 0, 1, 0, 189 ∷ 193 ∷ []) ∷ (2, 0, 1, 0, 195 ∷ 196 ∷ 197 ∷ []) ∷ (2, 0, 1, 0, 195 ∷ 196 ∷ 197 ∷ []) ∷ (2, 0, 1, 0, 196 ∷ 198 ∷ 199 ∷ []) ∷ (2, 0, 1, 0, 195 ∷ 197 ∷ []) ∷ (2, 0, 1, 0, 200 ∷ 201 ∷ []) ∷ (2, 0, 1, 0, 196 ∷ 199 ∷ []) ∷
+    (2, 0, 1, 0, 200 ∷ 201 ∷ 202 ∷ []) ∷ (2, 0, 1, 0, 200 ∷ 201 ∷ []) ∷ (2, 0, 0, 0, 202 ∷ 203 ∷ 204 ∷ []) ∷ (2, 0, 0, 0, 203 ∷ 204 ∷ 205 ∷ []) ∷ (2, 0, 0, 0, 203 ∷ 204 ∷ []) ∷ (2, 0, 1, 0, 205 ∷ 206 ∷ 207 ∷ 208 ∷ []) ∷ (2, 0, 1, 0, 206 ∷ 207 ∷ 208 ∷ []) ∷ (2, 1, 1, 0, 209 ∷ 210 ∷ 211 ∷ 212 ∷ 213 ∷ []) ∷
+    (2, 0, 1, 0, 206 ∷ 208 ∷ []) ∷ (2, 1, 1, 0, 209 ∷ 210 ∷ 211 ∷ 212 ∷ 213 ∷ []) ∷ (2, 0, 1, 0, 210 ∷ 214 ∷ 215 ∷ []) ∷ (3, 0, 1, 0, 211 ∷ 216 ∷ 217 ∷ []) ∷ (3, 4, 1, 0, 211 ∷ 212 ∷ 216 ∷ 217 ∷ []) ∷ (2, 0, 1, 0, 209 ∷ 213 ∷ []) ∷ (2, 0, 1, 0, 218 ∷ 219 ∷ []) ∷ (2, 0, 1, 0, 210 ∷ 215 ∷ []) ∷
+    (3, 0, 1, 0, 83 ∷ 220 ∷ 221 ∷ 222 ∷ []) ∷ (3, 0, 1, 0, 211 ∷ 217 ∷ []) ∷ (2, 1, 1, 0, 218 ∷ 219 ∷ 223 ∷ 224 ∷ []) ∷ (2, 0, 1, 0, 218 ∷ 219 ∷ []) ∷ (3, 0, 1, 0, 83 ∷ 220 ∷ 221 ∷ 222 ∷ []) ∷ (3, 0, 1, 0, 221 ∷ 225 ∷ 226 ∷ []) ∷ (3, 0, 1, 0, 220 ∷ 222 ∷ []) ∷ (3, 0, 1, 0, 211 ∷ 223 ∷ 227 ∷ []) ∷
+    (3, 5, 1, 0, 211 ∷ 223 ∷ 224 ∷ 227 ∷ []) ∷ (3, 0, 1, 0, 221 ∷ 225 ∷ []) ∷ (3, 0, 1, 0, 228 ∷ []) ∷ (3, 0, 1, 0, 223 ∷ 227 ∷ []) ∷ (3, 0, 1, 0, 229 ∷ 230 ∷ 231 ∷ []) ∷ (3, 0, 1, 0, 229 ∷ 230 ∷ 231 ∷ []) ∷ (3, 0, 1, 0, 230 ∷ 232 ∷ 233 ∷ []) ∷ (3, 0, 1, 0, 229 ∷ 231 ∷ []) ∷
+    (3, 0, 1, 0, 234 ∷ 235 ∷ []) ∷ (3, 0, 1, 0, 230 ∷ 233 ∷ []) ∷ (3, 0, 1, 0, 234 ∷ 235 ∷ 236 ∷ []) ∷ (3, 0, 1, 0, 234 ∷ 235 ∷ []) ∷ (3, 0, 0, 0, 236 ∷ 237 ∷ 238 ∷ []) ∷ (3, 0, 0, 0, 237 ∷ 238 ∷ 239 ∷ []) ∷ (3, 0, 0, 0, 237 ∷ 238 ∷ []) ∷ (3, 0, 1, 0, 239 ∷ 240 ∷ 241 ∷ 242 ∷ []) ∷
+    (3, 0, 1, 0, 240 ∷ 241 ∷ 242 ∷ []) ∷ (3, 1, 1, 0, 138 ∷ 243 ∷ 244 ∷ 245 ∷ 246 ∷ []) ∷ (3, 0, 1, 0, 240 ∷ 242 ∷ []) ∷ (3, 1, 1, 0, 138 ∷ 243 ∷ 244 ∷ 245 ∷ 246 ∷ []) ∷ (3, 0, 1, 0, 244 ∷ 247 ∷ 248 ∷ []) ∷ (4, 4, 1, 0, 121 ∷ 138 ∷ 145 ∷ 245 ∷ []) ∷ (3, 0, 1, 0, 243 ∷ 246 ∷ []) ∷ (3, 0, 1, 0, 249 ∷ 250 ∷ []) ∷
+    (3, 0, 1, 0, 244 ∷ 248 ∷ []) ∷ (3, 1, 1, 0, 249 ∷ 250 ∷ 251 ∷ 252 ∷ []) ∷ (3, 0, 1, 0, 249 ∷ 250 ∷ []) ∷ (4, 0, 1, 0, 138 ∷ 251 ∷ 253 ∷ []) ∷ (4, 5, 1, 0, 138 ∷ 251 ∷ 252 ∷ 253 ∷ []) ∷ (4, 0, 1, 0, 251 ∷ 253 ∷ []) ∷ []
 
 -- a number that stands for no state has that of state 0, `none`
 abbrev markOf : ℕ → Mark
-markOf s = getD marks s (0, 0, 0, [])
+markOf s = getD marks s (0, 0, 0, 0, [])
 
 -- ---- the tests
 unfoldable all : List Bool → Bool
@@ -111,24 +116,24 @@ all-pass (b ∷ more) t = let two = and-yes b (all more) t in (two .0, all-pass 
 unfoldable fresh : ℕ → ℕ
 fresh p = cond (eqb p 1) 1 0
 
--- what a byte of each role asks of the marks of the states before it and after it
-abbrev plainly : Mark → Mark → List Bool
-plainly m n = leb (begun m) (begun n) ∷ leb (run n) 1 ∷ leb (checked n) (checked m) ∷ []
+-- what a byte of each role asks of the marks of the states before it and after it; k is the most that `paired` may be after a plain one
+abbrev plainly : ℕ → Mark → Mark → List Bool
+plainly k m n = leb (begun m) (begun n) ∷ leb (run n) 1 ∷ leb (paired n) k ∷ leb (checked n) (checked m) ∷ []
 
 abbrev digits : ℕ → Mark → Mark → List Bool
 digits ρ m n =
-    (eqb (run m) 1 || eqb (run m) ρ) ∷ leb (begun m + fresh (run m)) (begun n) ∷ leb (begun n) 4 ∷ (leb (run n) 1 || eqb (run n) ρ) ∷ leb (checked n) (checked m) ∷ []
+    (eqb (run m) 1 || eqb (run m) ρ) ∷ leb (begun m + fresh (run m)) (begun n) ∷ leb (begun n) 4 ∷ leb (fresh (run m)) (paired m) ∷ (leb (run n) 1 || eqb (run n) ρ) ∷ leb (paired n) (paired m) ∷ leb (checked n) (checked m) ∷ []
 
 unfoldable fits : Role → Mark → Mark → List Bool
-fits other m n = plainly m n
-fits newName m n = plainly m n
-fits firstName m n = plainly m n
-fits secondName m n = plainly m n
+fits other m n = plainly (paired m) m n
+fits newName m n = plainly (paired m) m n
+fits firstName m n = plainly 0 m n
+fits secondName m n = plainly 1 m n
 fits boundDigit m n = digits 4 m n
 fits negatedDigit m n = digits 5 m n
-fits declarationEnd m n = plainly m n
-fits assertEnd m n = leb (run n) 1 ∷ leb (checked n) (checked m) ∷ []
-fits checkEnd m n = leb (begun m) (begun n) ∷ leb (run n) 1 ∷ []
+fits declarationEnd m n = plainly (paired m) m n
+fits assertEnd m n = leb (run n) 1 ∷ leb (paired n) (paired m) ∷ leb (checked n) (checked m) ∷ []
+fits checkEnd m n = leb (begun m) (begun n) ∷ leb (run n) 1 ∷ leb (paired n) (paired m) ∷ []
 
 -- one of these states has the grammar d, and its mark fits after a byte of the role r
 unfoldable isAmong : List Grammar → Grammar → Role → Mark → List ℕ → Bool
@@ -146,7 +151,7 @@ tried = 256 ∷ samples
 
 -- the marks keep to these grammars, and so does the mark of no state
 unfoldable areKept : List Grammar → List Grammar → List Mark → Bool
-areKept known [] [] = isKept known none (0, 0, 0, []) tried
+areKept known [] [] = isKept known none (0, 0, 0, 0, []) tried
 areKept known [] (m ∷ ms) = false
 areKept known (g ∷ gs) [] = false
 areKept known (g ∷ gs) (m ∷ ms) = isKept known g m tried && areKept known gs ms
@@ -253,7 +258,7 @@ sampled b =
     (λ (h : 256 ≤ b). or-first (alike 256 b script) (hasSample b samples) (far-alike b h script bytes-only)) (lt-or-ge b 256)
 
 -- ---- what the tests give at each state and byte
-kept-at : (gs : List Grammar) (ms : List Mark) → T (areKept states gs ms) → (s : ℕ) → T (isKept states (getD gs s none) (getD ms s (0, 0, 0, [])) tried)
+kept-at : (gs : List Grammar) (ms : List Mark) → T (areKept states gs ms) → (s : ℕ) → T (isKept states (getD gs s none) (getD ms s (0, 0, 0, 0, [])) tried)
 unfolding areKept
 kept-at [] [] t s = t
 kept-at [] (m ∷ ms) t s = absurd t
@@ -320,12 +325,12 @@ module _ (i : ℕ) (r : Role) (w : List ℕ) where
   own = eq-eqb (roleNo r) (roleNo r) refl
 
   -- a byte's piece is taken before what the run leaves of the others
-  joined : (h : ℕ) (e : Bool) (ps : List Piece) → Taken r h e (λ h′ e′. Whole h′ e′ (rest (roleNo r) ps)) → Whole h e (joinTo i r w ps)
+  joined : (h : ℕ) (p e : Bool) (ps : List Piece) → Taken r h p e (λ h′ p′ e′. Whole h′ p′ e′ (rest (roleNo r) ps)) → Whole h p e (joinTo i r w ps)
   unfolding joinTo
-  joined h e [] t = t
-  joined h e (p ∷ ps) t = go (eqb (roleNo r) (roleNo (p .role))) t
+  joined h p e [] t = t
+  joined h p e (q ∷ ps) t = go (eqb (roleNo r) (roleNo (q .role))) t
     where
-      go : (x : Bool) → Taken r h e (λ h′ e′. Whole h′ e′ (cond x ps (p ∷ ps))) → Whole h e (cond x (record { role = r; from = i; word = w ++ p .word } ∷ ps) (record { role = r; from = i; word = w } ∷ p ∷ ps))
+      go : (x : Bool) → Taken r h p e (λ h′ p′ e′. Whole h′ p′ e′ (cond x ps (q ∷ ps))) → Whole h p e (cond x (record { role = r; from = i; word = w ++ q .word } ∷ ps) (record { role = r; from = i; word = w } ∷ q ∷ ps))
       go true t = t
       go false t = t
 
@@ -349,106 +354,140 @@ module _ (i : ℕ) (r : Role) (w : List ℕ) where
 
 -- ---- what holds on the way
 -- at a state with the mark m, after a byte of the role of number d that is taken
-record Sits (m : Mark) (d h : ℕ) (e : Bool) : Type 0 where
+record Sits (m : Mark) (d h : ℕ) (p e : Bool) : Type 0 where
   few : h ≤ begun m
+  pair : 1 ≤ paired m → T p
   read : 1 ≤ checked m → T e
   goes-on : 4 ≤ run m → d ≡ run m
+  second : d ≡ 3 → T p
   closed : d ≡ 7 → h ≡ 0
   done : d ≡ 8 → T e
 
 -- one byte: in the run before it, or the first of a piece that is taken
-module _ (m n : Mark) (d h : ℕ) (e : Bool) (on : Sits m d h e) (i : ℕ) (w : List ℕ) (ps : List Piece) (later : (d′ h′ : ℕ) (e′ : Bool) → Sits n d′ h′ e′ → Whole h′ e′ (rest d′ ps)) where
-  by-run : (r : Role) → (d ≡ roleNo r → Sits n (roleNo r) h e) → ((d ≡ roleNo r → ⊥) → Taken r h e (λ h′ e′. Whole h′ e′ (rest (roleNo r) ps))) → Whole h e (rest d (joinTo i r w ps))
+module _ (m n : Mark) (d h : ℕ) (p e : Bool) (on : Sits m d h p e) (i : ℕ) (w : List ℕ) (ps : List Piece) (later : (d′ h′ : ℕ) (p′ e′ : Bool) → Sits n d′ h′ p′ e′ → Whole h′ p′ e′ (rest d′ ps)) where
+  by-run : (r : Role) → (d ≡ roleNo r → Sits n (roleNo r) h p e) → ((d ≡ roleNo r → ⊥) → Taken r h p e (λ h′ p′ e′. Whole h′ p′ e′ (rest (roleNo r) ps))) → Whole h p e (rest d (joinTo i r w ps))
   by-run r f g =
-      by-cases (ℕ-discrete d (roleNo r)) (λ y. rw (y, rest-own i r w ps) (later (roleNo r) h e (f y)))
-      (λ y. rw (rest-apart i r w d ps y) (joined i r w h e ps (g y)))
+      by-cases (ℕ-discrete d (roleNo r)) (λ y. rw (y, rest-own i r w ps) (later (roleNo r) h p e (f y)))
+      (λ y. rw (rest-apart i r w d ps y) (joined i r w h p e ps (g y)))
 
-  -- bytes that neither begin a bound nor end an assert or check-sat
-  plain : (ρ : ℕ) → T (not (eqb ρ 7)) → T (not (eqb ρ 8)) → Passed (plainly m n) → Sits n ρ h e
-  plain ρ s t p =
-      let most : begun m ≤ begun n = leb-yes (p .0) in
-      let none-comes : run n ≤ 1 = leb-yes (p .1 .0) in
-      let last : checked n ≤ checked m = leb-yes (p .1 .1 .0) in
+  -- bytes that neither begin a bound nor end an assert or check-sat; x says of the last name of an atom after them what p says before
+  plain : (ρ k : ℕ) (x : Bool) → T (not (eqb ρ 7)) → T (not (eqb ρ 8)) → (1 ≤ k → T x) → (ρ ≡ 3 → T x) → Passed (plainly k m n) → Sits n ρ h x e
+  plain ρ k x s t pairs seconds fit =
+      let most : begun m ≤ begun n = leb-yes (fit .0) in
+      let none-comes : run n ≤ 1 = leb-yes (fit .1 .0) in
+      let at-most : paired n ≤ k = leb-yes (fit .1 .1 .0) in
+      let last : checked n ≤ checked m = leb-yes (fit .1 .1 .1 .0) in
       record {
         few = omega (arith, on .few);
+        pair = λ q. pairs (omega arith);
         read = λ q. on .read (omega arith);
         goes-on = λ q. absurd (omega arith);
+        second = seconds;
         closed = λ q. absurd (eqb-no s q);
         done = λ q. absurd (eqb-no t q);
       }
 
-  -- a bound's digits, ρ being 4 or 5: the bound begins where the byte before was none of them
-  module _ (ρ : ℕ) (s : T (not (eqb ρ 7))) (t : T (not (eqb ρ 8))) (big : 4 ≤ ρ) (p : Passed (digits ρ m n)) where
-    most : begun m + fresh (run m) ≤ begun n
-    most = leb-yes (p .1 .0)
+  -- of them, those of no name of an atom
+  unnamed : (ρ : ℕ) → T (not (eqb ρ 3)) → T (not (eqb ρ 7)) → T (not (eqb ρ 8)) → Passed (plainly (paired m) m n) → Sits n ρ h p e
+  unnamed ρ u s t fit = plain ρ (paired m) p s t (on .pair) (λ q. absurd (eqb-no u q)) fit
 
-    bounded : (k : ℕ) → k ≤ begun n → Sits n ρ k e
+  -- a first name's
+  first-named : (x : Bool) → Passed (plainly 0 m n) → Sits n 2 h x e
+  first-named x fit = plain 2 0 x tt tt (λ q. absurd (omega arith)) (λ q. absurd (omega arith)) fit
+
+  -- a second name's
+  second-named : (x : Bool) → T x → Passed (plainly 1 m n) → Sits n 3 h x e
+  second-named x t fit = plain 3 1 x tt tt (λ q. t) (λ q. t) fit
+
+  -- a bound's digits, ρ being 4 or 5: the bound begins where the byte before was none of them
+  module _ (ρ : ℕ) (u : T (not (eqb ρ 3))) (s : T (not (eqb ρ 7))) (t : T (not (eqb ρ 8))) (big : 4 ≤ ρ) (fit : Passed (digits ρ m n)) where
+    most : begun m + fresh (run m) ≤ begun n
+    most = leb-yes (fit .1 .0)
+
+    asked : fresh (run m) ≤ paired m
+    asked = leb-yes (fit .1 .1 .1 .0)
+
+    bounded : (k : ℕ) → k ≤ begun n → Sits n ρ k p e
     bounded k less =
-        let last : checked n ≤ checked m = leb-yes (p .1 .1 .1 .1 .0) in
+        let still : paired n ≤ paired m = leb-yes (fit .1 .1 .1 .1 .1 .0) in
+        let last : checked n ≤ checked m = leb-yes (fit .1 .1 .1 .1 .1 .1 .0) in
         record {
           few = less;
+          pair = λ q. on .pair (omega arith);
           read = λ q. on .read (omega arith);
-          goes-on = λ q. ⊎-elim (λ (y : T (leb (run n) 1)). absurd (let z : run n ≤ 1 = leb-yes y in omega arith)) (λ (y : T (eqb (run n) ρ)). sym (eqb-yes y)) (or-yes (leb (run n) 1) (eqb (run n) ρ) (p .1 .1 .1 .0));
+          goes-on = λ q. ⊎-elim (λ (y : T (leb (run n) 1)). absurd (let z : run n ≤ 1 = leb-yes y in omega arith)) (λ (y : T (eqb (run n) ρ)). sym (eqb-yes y)) (or-yes (leb (run n) 1) (eqb (run n) ρ) (fit .1 .1 .1 .1 .0));
+          second = λ q. absurd (eqb-no u q);
           closed = λ q. absurd (eqb-no s q);
           done = λ q. absurd (eqb-no t q);
         }
 
-    goes-on-bounded : Sits n ρ h e
+    goes-on-bounded : Sits n ρ h p e
     goes-on-bounded = bounded h (omega (arith, on .few, most))
 
-    room : (d ≡ ρ → ⊥) → suc h ≤ begun n
+    -- where it begins there is room for it, and the last name of an atom was its second
+    room : (d ≡ ρ → ⊥) → (suc h ≤ begun n) × T p
     unfolding fresh
     room y =
-        ⊎-elim (λ (z : T (eqb (run m) 1)). let one-more : begun m + 1 ≤ begun n = rw (is-true (eqb (run m) 1) z) at most in omega (arith, on .few))
+        ⊎-elim
+        (λ (z : T (eqb (run m) 1)).
+        let one-more : begun m + 1 ≤ begun n = rw (is-true (eqb (run m) 1) z) at most in
+        let was-second : 1 ≤ paired m = rw (is-true (eqb (run m) 1) z) at asked in
+        (omega (arith, on .few), on .pair was-second))
         (λ (z : T (eqb (run m) ρ)). let is : run m ≡ ρ = eqb-yes z in absurd (y (on .goes-on (omega arith) ∙ is)))
-        (or-yes (eqb (run m) 1) (eqb (run m) ρ) (p .0))
+        (or-yes (eqb (run m) 1) (eqb (run m) ρ) (fit .0))
 
-    begins-bounded : (d ≡ ρ → ⊥) → (h < 4) × Whole (suc h) e (rest ρ ps)
+    begins-bounded : (d ≡ ρ → ⊥) → (h < 4) × T p × Whole (suc h) p e (rest ρ ps)
     begins-bounded y =
-        let most-in : begun n ≤ 4 = leb-yes (p .1 .1 .0) in
-        let one-more : suc h ≤ begun n = room y in
-        (omega arith, later ρ (suc h) e (bounded (suc h) one-more))
+        let most-in : begun n ≤ 4 = leb-yes (fit .1 .1 .0) in
+        let one-more : suc h ≤ begun n = room y .0 in
+        (omega arith, room y .1, later ρ (suc h) p e (bounded (suc h) one-more))
 
   -- an assert's end: no bound stands since
-  asserted : (k : ℕ) → k ≡ 0 → Passed (fits assertEnd m n) → Sits n 7 k e
+  asserted : (k : ℕ) → k ≡ 0 → Passed (fits assertEnd m n) → Sits n 7 k p e
   unfolding fits
-  asserted k z p =
-      let none-comes : run n ≤ 1 = leb-yes (p .0) in
-      let last : checked n ≤ checked m = leb-yes (p .1 .0) in
+  asserted k z fit =
+      let none-comes : run n ≤ 1 = leb-yes (fit .0) in
+      let still : paired n ≤ paired m = leb-yes (fit .1 .0) in
+      let last : checked n ≤ checked m = leb-yes (fit .1 .1 .0) in
       record {
         few = omega arith;
+        pair = λ q. on .pair (omega arith);
         read = λ q. on .read (omega arith);
         goes-on = λ q. absurd (omega arith);
+        second = λ q. absurd (omega arith);
         closed = λ q. z;
         done = λ q. absurd (omega arith);
       }
 
   -- the end of check-sat
-  finished : (x : Bool) → T x → Passed (fits checkEnd m n) → Sits n 8 h x
+  finished : (x : Bool) → T x → Passed (fits checkEnd m n) → Sits n 8 h p x
   unfolding fits
-  finished x t p =
-      let most-so-far : begun m ≤ begun n = leb-yes (p .0) in
-      let none-comes : run n ≤ 1 = leb-yes (p .1 .0) in
+  finished x t fit =
+      let most-so-far : begun m ≤ begun n = leb-yes (fit .0) in
+      let none-comes : run n ≤ 1 = leb-yes (fit .1 .0) in
+      let still : paired n ≤ paired m = leb-yes (fit .1 .1 .0) in
       record {
         few = omega (arith, on .few);
+        pair = λ q. on .pair (omega arith);
         read = λ q. t;
         goes-on = λ q. absurd (omega arith);
+        second = λ q. absurd (omega arith);
         closed = λ q. absurd (omega arith);
         done = λ q. t;
       }
 
   -- by the byte's role
-  byte-taken : (r : Role) → Passed (fits r m n) → Whole h e (rest d (joinTo i r w ps))
+  byte-taken : (r : Role) → Passed (fits r m n) → Whole h p e (rest d (joinTo i r w ps))
   unfolding fits roleNo
-  byte-taken other p = by-run other (λ y. plain 0 tt tt p) (λ y. later 0 h e (plain 0 tt tt p))
-  byte-taken newName p = by-run newName (λ y. plain 1 tt tt p) (λ y. later 1 h e (plain 1 tt tt p))
-  byte-taken firstName p = by-run firstName (λ y. plain 2 tt tt p) (λ y. later 2 h e (plain 2 tt tt p))
-  byte-taken secondName p = by-run secondName (λ y. plain 3 tt tt p) (λ y. later 3 h e (plain 3 tt tt p))
-  byte-taken boundDigit p = by-run boundDigit (λ y. goes-on-bounded 4 tt tt (omega arith) p) (λ y. begins-bounded 4 tt tt (omega arith) p y)
-  byte-taken negatedDigit p = by-run negatedDigit (λ y. goes-on-bounded 5 tt tt (omega arith) p) (λ y. begins-bounded 5 tt tt (omega arith) p y)
-  byte-taken declarationEnd p = by-run declarationEnd (λ y. plain 6 tt tt p) (λ y. later 6 h e (plain 6 tt tt p))
-  byte-taken assertEnd p = by-run assertEnd (λ y. asserted h (on .closed y) p) (λ y. later 7 0 e (asserted 0 refl p))
-  byte-taken checkEnd p = by-run checkEnd (λ y. finished e (on .done y) p) (λ y. later 8 h true (finished true tt p))
+  byte-taken other fit = by-run other (λ y. unnamed 0 tt tt tt fit) (λ y. later 0 h p e (unnamed 0 tt tt tt fit))
+  byte-taken newName fit = by-run newName (λ y. unnamed 1 tt tt tt fit) (λ y. later 1 h p e (unnamed 1 tt tt tt fit))
+  byte-taken firstName fit = by-run firstName (λ y. first-named p fit) (λ y. later 2 h false e (first-named false fit))
+  byte-taken secondName fit = by-run secondName (λ y. second-named p (on .second y) fit) (λ y. later 3 h true e (second-named true tt fit))
+  byte-taken boundDigit fit = by-run boundDigit (λ y. goes-on-bounded 4 tt tt tt (omega arith) fit) (λ y. begins-bounded 4 tt tt tt (omega arith) fit y)
+  byte-taken negatedDigit fit = by-run negatedDigit (λ y. goes-on-bounded 5 tt tt tt (omega arith) fit) (λ y. begins-bounded 5 tt tt tt (omega arith) fit y)
+  byte-taken declarationEnd fit = by-run declarationEnd (λ y. unnamed 6 tt tt tt fit) (λ y. later 6 h p e (unnamed 6 tt tt tt fit))
+  byte-taken assertEnd fit = by-run assertEnd (λ y. asserted h (on .closed y) fit) (λ y. later 7 0 p e (asserted 0 refl fit))
+  byte-taken checkEnd fit = by-run checkEnd (λ y. finished e (on .done y) fit) (λ y. later 8 h p true (finished true tt fit))
 
 -- ---- a whole text, from each state on
 not-refused : (x : Bool) (i : ℕ) (o : Option ℕ) → cond x o (refused i) ≡ fine → (x ≡ true) × (o ≡ fine)
@@ -457,20 +496,20 @@ not-refused false i o e = absurd (never (cc))
 
 -- By induction on the text: at its end the state's mark says that no bound is left over and check-sat was read; a byte leads to a state whose mark
 -- fits, and is taken before the pieces of what follows.
-whole-from : (text : List ℕ) (i s d h : ℕ) (e : Bool) → placeFrom i (grammarOf s) text ≡ fine → Sits (markOf s) d h e → Whole h e (rest d (pieces i (grammarOf s) text))
+whole-from : (text : List ℕ) (i s d h : ℕ) (p e : Bool) → placeFrom i (grammarOf s) text ≡ fine → Sits (markOf s) d h p e → Whole h p e (rest d (pieces i (grammarOf s) text))
 unfolding placeFrom pieces
-whole-from [] i s d h e p on =
-    let end : ends (grammarOf s) ≡ true = not-refused (ends (grammarOf s)) i fine p .0 in
+whole-from [] i s d h p e ok on =
+    let end : ends (grammarOf s) ≡ true = not-refused (ends (grammarOf s)) i fine ok .0 in
     let two = ends-kept (grammarOf s) (markOf s) tried (state-kept s) end in
     (omega (arith, on .few, two .0), on .read (two .1))
-whole-from (b ∷ text) i s d h e p on =
+whole-from (b ∷ text) i s d h p e ok on =
     let g : Grammar = grammarOf s in
-    let two = not-refused (live (after b g)) i (placeFrom (suc i) (after b g) text) p in
+    let two = not-refused (live (after b g)) i (placeFrom (suc i) (after b g) text) ok in
     let l = leads s b (two .0) in
     let place : placeFrom (suc i) (grammarOf (l .to)) text ≡ fine = rw (l .is) (two .1) in
-    let later : (d′ h′ : ℕ) (e′ : Bool) → Sits (markOf (l .to)) d′ h′ e′ → Whole h′ e′ (rest d′ (pieces (suc i) (after b g) text)) =
-    λ d′ h′ e′ sits. rw (← (l .is)) (whole-from text (suc i) (l .to) d′ h′ e′ place sits) in
-    rw (two .0) (byte-taken (markOf s) (markOf (l .to)) d h e on i (b ∷ []) (pieces (suc i) (after b g) text) later (roleOf b g) (l .fit))
+    let later : (d′ h′ : ℕ) (p′ e′ : Bool) → Sits (markOf (l .to)) d′ h′ p′ e′ → Whole h′ p′ e′ (rest d′ (pieces (suc i) (after b g) text)) =
+    λ d′ h′ p′ e′ sits. rw (← (l .is)) (whole-from text (suc i) (l .to) d′ h′ p′ e′ place sits) in
+    rw (two .0) (byte-taken (markOf s) (markOf (l .to)) d h p e on i (b ∷ []) (pieces (suc i) (after b g) text) later (roleOf b g) (l .fit))
 
 -- ---- the claim for scripts: state 1 is `script`
 first-state : grammarOf 1 ≡ script
@@ -494,11 +533,11 @@ all-left : (ps : List Piece) → rest 9 ps ≡ ps
 all-left [] = refl
 all-left (p ∷ ps) = rw (no-role (p .role))
 
-at-first : Sits (markOf 1) 9 0 false
+at-first : Sits (markOf 1) 9 0 false false
 unfolding marks
-at-first = record { few = omega arith; read = λ q. absurd (omega arith); goes-on = λ q. absurd (omega arith); closed = λ q. refl; done = λ q. absurd (omega arith) }
+at-first = record { few = omega arith; pair = λ q. absurd (omega arith); read = λ q. absurd (omega arith); goes-on = λ q. absurd (omega arith); second = λ q. absurd (omega arith); closed = λ q. refl; done = λ q. absurd (omega arith) }
 
-pub whole : (text : List ℕ) (i : ℕ) → placeFrom i script text ≡ fine → Whole 0 false (pieces i script text)
+pub whole : (text : List ℕ) (i : ℕ) → placeFrom i script text ≡ fine → Whole 0 false false (pieces i script text)
 whole text i p =
     let q : placeFrom i (grammarOf 1) text ≡ fine = rw (first-state) p in
-    rw (← first-state, ← (all-left (pieces i (grammarOf 1) text))) (whole-from text i 1 9 0 false q at-first)
+    rw (← first-state, ← (all-left (pieces i (grammarOf 1) text))) (whole-from text i 1 9 0 false false q at-first)

@@ -1,73 +1,47 @@
--- What an accepted problem is: its events lie below n, its bounds and its sizes within their limits. Assumes nothing.
-use mathlib.Core.Path.{_≡_, refl, ap, _∙_}
-use mathlib.Core.Bool.{Bool, true, false, _&&_}
-use mathlib.Core.List.{List, [], _∷_, _++_}
+-- What an accepted problem is: its events lie below n and no alternative holds one against itself, its bounds and its sizes lie within their limits.
+-- Assumes nothing.
+use mathlib.Core.Path.{_≡_, refl, sym, ap}
+use mathlib.Core.Bool.{Bool, true, false, _&&_, _||_}
+use mathlib.Core.List.{List, [], _∷_}
 use Prim.Native.Nat.{ℕ, zero, suc, _+_, _-_, _*_, _/_, _%_, _<_, _≤_}
-use native.Mathlib.Nat.{not-suc-le-zero, le-of-suc-le-suc}
+use native.Mathlib.Nat.{not-suc-le-zero, le-of-suc-le-suc, le-antisymm}
 use native.Mathlib.Omega.{arith}
 use lib.Dec.{T, leb, ltb, eqb, leb→le, ltb→lt, eqb→eq}
 use lib.IntN.{ℤ, pos, negsuc, natAbs}
+use lib.Signed.{ltZ, ltZ-yes, <ℤ-irrefl}
 use lib.ListN.{length, getD, take, drop, length-take, length-drop}
-use mir.Facts.{and-yes}
-pub use Rattle.laws.proofs.Tests.{Passed}
+use mir.Facts.{and-yes, or-yes}
+use borrow.Author.Tests.{ltb-false}
+use mathlib.Core.Logic.{⊎-elim}
 use Rattle.meaning.specs.Limits.{mostEvents, mostClauses, mostInClause, mostAlternatives, mostBound}
 use Rattle.meaning.specs.Problem.{Alternative, Clause}
 use Rattle.meaning.specs.Plain.{Selection, nowhere, chosen}
-use Rattle.meaning.specs.Screen.{Lent, Input, alternatives, parted, clausesOf, stepped, events, bounds, isEvent, isBound, problemTests, planTests, firstFailed, problemRefusal, refusal}
+use Rattle.meaning.specs.Screen.{Lent, alternatives, parted, clausesOf, stepped, events, bounds, isEvent, areEvents, areApart, isBound, problemTests, problemRefusal}
 use Rattle.meaning.proofs.Settling.{Each, In}
 use Rattle.meaning.proofs.Rows.{Short}
-
--- ---- tests that are all passed
-pub all-passed : (i : ℕ) (bs : List Bool) → 0 < i → firstFailed i bs ≡ 0 → Passed bs
-unfolding firstFailed
-all-passed i [] l e = tt
-all-passed i (true ∷ more) l e = (tt, all-passed (suc i) more (omega arith) e)
-all-passed i (false ∷ more) l e = absurd (contra l e)
-  where
-    contra : 0 < i → i ≡ 0 → ⊥
-    contra h k = omega arith
-
-pub none-failed : (i : ℕ) (bs : List Bool) → Passed bs → firstFailed i bs ≡ 0
-unfolding firstFailed
-none-failed i [] p = refl
-none-failed i (true ∷ more) p = none-failed (suc i) more (p .1)
-none-failed i (false ∷ more) p = absurd (p .0)
-
-pub passed-both : (bs ds : List Bool) → Passed bs → Passed ds → Passed (bs ++ ds)
-passed-both [] ds p q = q
-passed-both (b ∷ bs) ds p q = (p .0, passed-both bs ds (p .1) q)
-
-passed-front : (bs ds : List Bool) → Passed (bs ++ ds) → Passed bs
-passed-front [] ds p = tt
-passed-front (b ∷ bs) ds p = (p .0, passed-front bs ds (p .1))
-
--- tests put after others change nothing where the first ones are not all passed
-pub front-first : (i : ℕ) (bs ds : List Bool) → 0 < firstFailed i bs → firstFailed i (bs ++ ds) ≡ firstFailed i bs
-unfolding firstFailed
-front-first i [] ds l = absurd (not-suc-le-zero l)
-front-first i (true ∷ bs) ds l = front-first (suc i) bs ds l
-front-first i (false ∷ bs) ds l = refl
-
--- tests after others that are all passed
-pub passed-over : (i : ℕ) (bs ds : List Bool) → Passed bs → firstFailed i (bs ++ ds) ≡ firstFailed (i + length bs) ds
-unfolding firstFailed
-passed-over i [] ds p = ap (λ (j : ℕ). firstFailed j ds) (let e : i ≡ i + 0 = omega arith in e)
-passed-over i (true ∷ bs) ds p = passed-over (suc i) bs ds (p .1) ∙ ap (λ (j : ℕ). firstFailed j ds) (let e : suc i + length bs ≡ i + suc (length bs) = omega arith in e)
-passed-over i (false ∷ bs) ds p = absurd (p .0)
-
--- a call that `plan` takes has an accepted problem
-pub plan-problem : (i : Input) → refusal i ≡ 0 → problemRefusal (i .lent) ≡ 0
-unfolding refusal problemRefusal
-plan-problem i e = none-failed 1 (problemTests (i .lent)) (passed-front (problemTests (i .lent)) (planTests i) (all-passed 1 _ (omega arith) e))
+use Rattle.meaning.proofs.Refusals.{tests-passed}
 
 -- ---- every alternative of every clause
 abbrev pub Every : (Alternative → Type 0) → List Clause → Type 0
 Every P [] = Unit {0}
 Every P (c ∷ cs) = Each P c × Every P cs
 
+-- two events are named: no arc leads from an event to itself
+abbrev pub Apart : Alternative → Type 0
+Apart a = a .x ≡ a .y → ⊥
+
 -- the bound lies within its limits
 abbrev pub Bounded : Alternative → Type 0
 Bounded a = natAbs (a .c) ≤ mostBound
+
+-- what holds of every one, and what else does
+pub every-both : (P Q : Alternative → Type 0) (cs : List Clause) → Every P cs → Every Q cs → Every (λ a. P a × Q a) cs
+every-both P Q [] p q = tt
+every-both P Q (c ∷ cs) p q = (each-both c (p .0) (q .0), every-both P Q cs (p .1) (q .1))
+  where
+    each-both : (c : Clause) → Each P c → Each Q c → Each (λ a. P a × Q a) c
+    each-both [] p q = tt
+    each-both (a ∷ more) p q = ((p .0, q .0), each-both more (p .1) (q .1))
 
 module _ (P : Alternative → Type 0) where
   each-at : (c : Clause) (i : ℕ) → i < length c → Each P c → P (getD c i nowhere)
@@ -106,13 +80,35 @@ is-event : (n : ℕ) (x : ℤ) → T (isEvent n x) → Event n x
 is-event n (pos k) t = (k, (refl, ltb→lt k n (and-yes (leb 0 k) (ltb k n) t .1)))
 is-event n (negsuc k) t = absurd t
 
+are-events : (n : ℕ) (x y : ℤ) → T (areEvents n x y) → Event n x × Event n y
+are-events n x y t = let each = and-yes (isEvent n x) (isEvent n y) t in (is-event n x (each .0), is-event n y (each .1))
+
 -- of the first triple's events, and the rest
-pub first-events : (n : ℕ) (x y c : ℤ) (more : List ℤ) → T (events (isEvent n) (x ∷ (y ∷ (c ∷ more)))) → (Event n x × Event n y) × T (events (isEvent n) more)
+pub first-pair : (f : ℤ → ℤ → Bool) (x y c : ℤ) (more : List ℤ) → T (events f (x ∷ (y ∷ (c ∷ more)))) → T (f x y) × T (events f more)
 unfolding events
-first-events n x y c more t =
-    let two = and-yes (isEvent n x && isEvent n y) (events (isEvent n) more) t in
-    let each = and-yes (isEvent n x) (isEvent n y) (two .0) in
-    ((is-event n x (each .0), is-event n y (each .1)), two .1)
+first-pair f x y c more t = and-yes (f x y) (events f more) t
+
+pub first-events : (n : ℕ) (x y c : ℤ) (more : List ℤ) → T (events (areEvents n) (x ∷ (y ∷ (c ∷ more)))) → (Event n x × Event n y) × T (events (areEvents n) more)
+first-events n x y c more t = let two = first-pair (areEvents n) x y c more t in (are-events n x y (two .0), two .1)
+
+either-below : (j k : ℕ) → (j ≡ k → ⊥) → T (ltb j k || ltb k j)
+either-below j k f = go (ltb j k) (ltb-false j k) (ltb k j) (ltb-false k j)
+  where
+    go : (a : Bool) → (a ≡ false → k ≤ j) → (b : Bool) → (b ≡ false → j ≤ k) → T (a || b)
+    go true g b h = tt
+    go false g true h = tt
+    go false g false h = absurd (f (le-antisymm (h refl) (g refl)))
+
+-- numbers are apart exactly where they are not the same
+pub apart-differ : (x y : ℤ) → T (areApart x y) → x ≡ y → ⊥
+apart-differ x y t e =
+    ⊎-elim (λ (h : T (ltZ x y)). <ℤ-irrefl {a = y} (ltZ-yes (rw e at h))) (λ (h : T (ltZ y x)). <ℤ-irrefl {a = y} (ltZ-yes (rw e at h))) (or-yes (ltZ x y) (ltZ y x) t)
+
+pub differ-apart : (x y : ℤ) → (x ≡ y → ⊥) → T (areApart x y)
+differ-apart (pos j) (pos k) f = either-below j k (λ e. f (ap pos e))
+differ-apart (pos j) (negsuc k) f = tt
+differ-apart (negsuc j) (pos k) f = tt
+differ-apart (negsuc j) (negsuc k) f = either-below k j (λ e. f (ap negsuc (sym e)))
 
 -- of the first triple's bound, and the rest
 pub first-bound : (x y c : ℤ) (more : List ℤ) → T (bounds isBound (x ∷ (y ∷ (c ∷ more)))) → (natAbs c ≤ mostBound) × T (bounds isBound more)
@@ -135,7 +131,7 @@ first-count last from e counts t =
     record { up = leb→le from e (each .0); by = leb→le e (from + mostInClause) (each .1); rest = two .1 }
 
 -- ---- from the tests to the facts
-alternatives-in : (n j : ℕ) (xs : List ℤ) → T (events (isEvent n) xs) → Each (In n) (alternatives j xs)
+alternatives-in : (n j : ℕ) (xs : List ℤ) → T (events (areEvents n) xs) → Each (In n) (alternatives j xs)
 unfolding alternatives
 alternatives-in n j [] t = tt
 alternatives-in n j (x ∷ []) t = tt
@@ -146,6 +142,19 @@ alternatives-in n j (x ∷ (y ∷ (c ∷ more))) t =
   where
     below-n : (z : ℤ) → Event n z → natAbs z < n
     below-n z (k, (e, l)) = rw e l
+
+alternatives-apart : (n j : ℕ) (xs : List ℤ) → T (events (areEvents n) xs) → T (events areApart xs) → Each Apart (alternatives j xs)
+unfolding alternatives
+alternatives-apart n j [] t d = tt
+alternatives-apart n j (x ∷ []) t d = tt
+alternatives-apart n j (x ∷ (y ∷ [])) t d = tt
+alternatives-apart n j (x ∷ (y ∷ (c ∷ more))) t d =
+    let f = first-events n x y c more t in
+    let p = first-pair areApart x y c more d in
+    (two-events x y (f .0 .0) (f .0 .1) (p .0), alternatives-apart n (suc j) more (f .1) (p .1))
+  where
+    two-events : (u v : ℤ) → Event n u → Event n v → T (areApart u v) → natAbs u ≡ natAbs v → ⊥
+    two-events u v (a, (e, l)) (b, (q, h)) = rw (e, q) (λ t same. apart-differ (pos a) (pos b) t (ap pos same))
 
 alternatives-bounded : (j : ℕ) (xs : List ℤ) → T (bounds isBound xs) → Each Bounded (alternatives j xs)
 unfolding alternatives
@@ -194,13 +203,14 @@ pub record Passes (l : Lent) : Type 0 where
   pub whole : length (l .triples) % 3 ≡ 0
   pub all : length (l .triples) ≤ 3 * mostAlternatives
   pub steps : T (stepped (length (l .triples) / 3) 0 (l .counts))
-  pub events : T (events (isEvent (l .n)) (l .triples))
+  pub apart : T (events areApart (l .triples))
+  pub events : T (events (areEvents (l .n)) (l .triples))
   pub bounds : T (bounds isBound (l .triples))
 
 pub passes : (l : Lent) → problemRefusal l ≡ 0 → Passes l
-unfolding problemRefusal problemTests
+unfolding problemTests
 passes l e =
-    let p = all-passed 1 _ (omega arith) e in
+    let p = tests-passed l e in
     let L : ℕ = length (l .triples) in
     let sizes = and-yes (leb 1 (l .n)) (leb (l .n) mostEvents) (p .0) in
     let threes = and-yes (eqb (L % 3) 0) (leb L (3 * mostAlternatives)) (p .1 .1 .0) in
@@ -211,8 +221,9 @@ passes l e =
       whole = eqb→eq (L % 3) 0 (threes .0);
       all = leb→le L (3 * mostAlternatives) (threes .1);
       steps = p .1 .1 .1 .0;
+      apart = p .1 .1 .1 .1 .1 .0;
       events = p .1 .1 .1 .1 .0;
-      bounds = p .1 .1 .1 .1 .1 .0;
+      bounds = p .1 .1 .1 .1 .1 .1 .0;
     }
 
 pub record Accepted (l : Lent) : Type 0 where
@@ -220,6 +231,7 @@ pub record Accepted (l : Lent) : Type 0 where
   pub some : 1 ≤ l .n
   pub most : l .n ≤ mostEvents
   pub within : Every (In (l .n)) (clausesOf l)
+  pub apart : Every Apart (clausesOf l)
   pub bounded : Every Bounded (clausesOf l)
   pub short : Short (clausesOf l)
   pub few : length (clausesOf l) ≤ mostClauses
@@ -235,6 +247,7 @@ accepted l e =
       some = p .some;
       most = p .most;
       within = parted-every (In (l .n)) 0 (l .counts) given (alternatives-in (l .n) 0 (l .triples) (p .events));
+      apart = parted-every Apart 0 (l .counts) given (alternatives-apart (l .n) 0 (l .triples) (p .events) (p .apart));
       bounded = parted-every Bounded 0 (l .counts) given (alternatives-bounded 0 (l .triples) (p .bounds));
       short = parted-short _ 0 (l .counts) given (p .steps);
       few = omega (arith, parted-length 0 (l .counts) given, p .few);

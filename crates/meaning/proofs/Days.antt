@@ -1,4 +1,4 @@
--- The days of 01, as A4 amends them, with all their numbers, as the table is lent them: one table, one claim, which antt computes. Assumes nothing.
+-- The days of 01, as A4 and A6 amend them, with all their numbers, as the table is lent them: one table, one claim, which antt computes. Assumes nothing.
 use mathlib.Core.Path.{_≡_, refl}
 use mathlib.Core.List.{List, [], _∷_, _++_, map}
 use Prim.Native.Nat.{ℕ, _+_, _-_, _*_}
@@ -6,7 +6,7 @@ use lib.IntN.{ℤ, pos, negℤ}
 use lib.ListN.{replicate, length}
 use Rattle.meaning.specs.declared.Answer.{Answer}
 use Rattle.meaning.specs.declared.Answer.the-variants.{Plan, None, Unlisted, Stopped, Refused}
-use Rattle.meaning.specs.declared.Verdict.the-variants.{Yes, No}
+use Rattle.meaning.specs.declared.Verdict.the-variants.{Yes, No, Refused as Refuse}
 use Rattle.meaning.specs.Limits.{mostEvents, longestDay, rowBytes, blankByte}
 use Rattle.meaning.specs.Problem.{Alternative, opposite, satisfied}
 use Rattle.meaning.specs.Plain.{product}
@@ -69,6 +69,9 @@ d2 = lent 4 (alt 2 1 (pos 6) ++ alt 0 3 (pos 4) ++ alt 2 0 (pos 1) ++ alt 3 0 (m
 abbrev pub d4 : Lent
 d4 = lent 2 (alt 0 1 (minus 1) ++ alt 1 0 (minus 1)) (1 ∷ 2 ∷ [])
 
+abbrev pub d5 : Lent
+d5 = lent 1 (alt 0 0 (minus 1)) (1 ∷ [])
+
 abbrev pub d8 : Lent
 d8 = lent 2 (alt 0 1 (pos 5) ++ alt 1 0 (minus 5)) (1 ∷ 2 ∷ [])
 
@@ -83,6 +86,7 @@ blanks-of m = replicate (m + 1) blankByte
 as-A4-has-it : mostEvents ∷ longestDay ∷ (rowBytes - 1) ∷ (rowBytes - 2) ∷ (3 * rowBytes - 1) ∷ [] ≡ 24 ∷ 2300000 ∷ 23 ∷ 22 ∷ 71 ∷ []
 as-A4-has-it = refl
 
+-- the days, then 12 with each of the others that its order parts it from: 4 with 12, 5 with 12, 12 with 6, with 7 and with 8
 unfoldable pub days : List Day
 days =
     day (usual d1) (Plan 2 0) (minus 30 ∷ pos 0 ∷ pos 1 ∷ pos 1 ∷ []) (0 ∷ 255 ∷ []) [] 1 1
@@ -92,8 +96,8 @@ days =
     ∷ day (usual d4) (None 2 1 3) (ones-of 2) (blanks-of 2) ((240 ∷ []) ∷ (201 ∷ []) ∷ (1 ∷ 0 ∷ []) ∷ []) 0 0
     ∷ day (call d4 1000 (3 * rowBytes - 1)) (Unlisted 2 1 3) (ones-of 2) (blanks-of 2) [] 0 0
     ∷ day (call d4 1000 (3 * rowBytes)) (None 2 1 3) (ones-of 2) (blanks-of 2) ((240 ∷ []) ∷ (201 ∷ []) ∷ (1 ∷ 0 ∷ []) ∷ []) 0 0
-    ∷ day (usual (lent 1 (alt 0 0 (minus 1)) (1 ∷ []))) (None 1 1 2) (ones-of 1) (blanks-of 1) ((200 ∷ []) ∷ (0 ∷ []) ∷ []) 0 0
-    ∷ day (usual (lent 1 (alt 0 0 (pos 0)) (1 ∷ []))) (Plan 2 0) (pos 0 ∷ pos 1 ∷ pos 1 ∷ []) (0 ∷ 255 ∷ []) [] 1 1
+    ∷ day (usual d5) (Refused 12) (ones-of 1) (blanks-of 1) [] 0 0
+    ∷ day (usual (lent 1 (alt 0 0 (pos 0)) (1 ∷ []))) (Refused 12) (ones-of 1) (blanks-of 1) [] 0 0
     ∷ day (usual (lent 3 [] [])) (Plan 1 0) (pos 0 ∷ pos 0 ∷ pos 0 ∷ pos 1 ∷ pos 1 ∷ []) (255 ∷ []) [] 0 0
     ∷ day (usual (lent 1 [] (0 ∷ []))) (None 1 0 1) (ones-of 1) (blanks-of 1) ((200 ∷ []) ∷ []) 0 0
     ∷ day (usual d8) (Plan 3 0) (pos 0 ∷ minus 5 ∷ pos 1 ∷ pos 1 ∷ []) (0 ∷ 0 ∷ 255 ∷ []) [] 3 2
@@ -104,6 +108,11 @@ days =
     ∷ day (usual (lent 2 (alt 0 1 (pos 100001)) (1 ∷ []))) (Refused 6) (ones-of 2) (blanks-of 1) [] 0 0
     ∷ day (usual (lent mostEvents [] [])) (Plan 1 0) (replicate mostEvents (pos 0) ++ pos 1 ∷ pos 1 ∷ []) (255 ∷ []) [] 0 0
     ∷ day (usual (lent (mostEvents + 1) [] [])) (Refused 1) (ones-of (mostEvents + 1)) (blanks-of 0) [] 0 0
+    ∷ day (usual (lent 2 (alt 1 1 (pos 0)) (2 ∷ []))) (Refused 4) (ones-of 2) (blanks-of 1) [] 0 0
+    ∷ day (usual (lent 2 (alt 1 1 (pos 0) ++ alt 0 2 (pos 0)) (1 ∷ 2 ∷ []))) (Refused 5) (ones-of 2) (blanks-of 2) [] 0 0
+    ∷ day (usual (lent 2 (alt 0 1 (pos 100001) ++ alt 1 1 (pos 0)) (1 ∷ 2 ∷ []))) (Refused 12) (ones-of 2) (blanks-of 2) [] 0 0
+    ∷ day (call (lent 2 (alt 1 1 (pos 0)) (1 ∷ [])) 1000001 100000) (Refused 12) (ones-of 2) (blanks-of 1) [] 0 0
+    ∷ day (record { lent = lent 2 (alt 1 1 (pos 0)) (1 ∷ []); allowance = 1000; times = 1; picks = 2; room = 24 }) (Refused 12) (pos 1 ∷ []) (blanks-of 1) [] 0 0
     ∷ []
 
 pub days-hold : map (λ (d : Day). seen (d .input)) days ≡ map (λ (d : Day). d .expected) days
@@ -118,6 +127,11 @@ d4-list a b = (240 ∷ replicate (rowBytes - 1) 255) ++ (201 ∷ replicate (rowB
 pub d4-read : map (reasonsVerdict d4) (d4-list 0 1 ∷ d4-list 1 0 ∷ d4-list 0 255 ∷ []) ≡ Yes ∷ Yes ∷ No ∷ []
 unfolding d4-list reasonsVerdict verdict problemRefusal problemTests firstFailed bounds events stepped clausesOf parted alternatives isReading ends allBlank rowsOf cut read eachRead andRead reading front cycleRows kind markRow same cycleOver filled blank numbers loops walk given named opposite
 d4-read = refl
+
+-- D5 is refused by the readers and the lamps too, by the second reader before the timetable's length is looked at
+pub d5-refused : (reasonsVerdict d5 [] ∷ timetableVerdict d5 [] ∷ timetableVerdict d5 (pos 0 ∷ []) ∷ [] ≡ Refuse 12 ∷ Refuse 12 ∷ Refuse 12 ∷ []) × (panel d5 .number ≡ 12)
+unfolding reasonsVerdict timetableVerdict timetableRefusal verdict problemRefusal problemTests firstFailed bounds events stepped panel shownPanel dark
+d5-refused = (refl, refl)
 
 -- the timetable of D1 is read yes, and one a minute late is not
 pub d1-read : map (timetableVerdict d1) ((minus 30 ∷ pos 0 ∷ []) ∷ (minus 29 ∷ pos 0 ∷ []) ∷ []) ≡ Yes ∷ No ∷ []

@@ -18,7 +18,8 @@ use Rattle.meaning.specs.Plain.{chosen, timesOf}
 use Rattle.meaning.specs.Decision.{sound, latestOf}
 use Rattle.meaning.specs.Search.{Row, Outcome, found, closed, stopped}
 use Rattle.meaning.specs.Screen.{Lent, Input, clausesOf, refusal, Screen, cleared, listed, shown, outcome, decided, screen, Shows}
-use Rattle.meaning.proofs.Accepted.{Accepted, accepted, plan-problem}
+use Rattle.meaning.proofs.Refusals.{plan-problem}
+use Rattle.meaning.proofs.Accepted.{Accepted, accepted}
 use Rattle.meaning.proofs.Demands.{FirstPlan, NoPlan, Halt, found-first, closed-none, stopped-halt}
 use Rattle.meaning.proofs.Deciding.{sound-decides}
 use Rattle.meaning.proofs.Fits.{product-fits, rank-within}

@@ -10,7 +10,9 @@ pub mod Cycle
 pub mod Rows
 pub mod Reading
 pub mod Listing
+pub mod Refusals
 pub mod Accepted
+pub mod Apart
 pub mod Range
 pub mod Fits
 pub mod Order

@@ -20,10 +20,11 @@ use Rattle.meaning.specs.Plain.{timesOf}
 use Rattle.meaning.specs.Decision.{sound}
 use Rattle.meaning.specs.Search.{found, closed}
 use Rattle.meaning.specs.Reasons.{isReading, Written}
-use Rattle.meaning.specs.Screen.{Lent, Input, clausesOf, problemTests, problemRefusal, Screen, cleared, listed, shown, screen, Shows}
+use Rattle.meaning.specs.Screen.{Lent, Input, clausesOf, problemRefusal, Screen, cleared, listed, shown, screen, Shows}
 use Rattle.meaning.specs.Verdicts.{verdict, reasonsVerdict, some, keeps, timetableRefusal, timetableVerdict}
 use Rattle.meaning.proofs.Settling.{Each, In}
-use Rattle.meaning.proofs.Accepted.{Accepted, Every, all-passed, none-failed, passed-both}
+use Rattle.meaning.proofs.Accepted.{Accepted, Every}
+use Rattle.meaning.proofs.Refusals.{none-failed, problem-passed}
 use Rattle.meaning.proofs.Demands.{kept-holds}
 use Rattle.meaning.proofs.Reading.{Readable, search-readable}
 use Rattle.meaning.proofs.Listing.{reading-none, written-reading}
@@ -136,10 +137,10 @@ plan-accepted i v b times picks reasons s = go (ending i)
 
 -- every plan's timetable
 pub plan-read : (i : Input) (v b : ℕ) (times : List ℤ) (picks reasons : List ℕ) → Shows i (Plan v b) times picks reasons → timetableVerdict (i .lent) times ≡ Yes
-unfolding timetableVerdict timetableRefusal problemRefusal
+unfolding timetableVerdict timetableRefusal
 plan-read i v b times picks reasons s =
     both-yes (timetableRefusal (i .lent) times) (keeps (timesOf times) (clausesOf (i .lent)))
-    (none-failed 1 _ (passed-both (problemTests (i .lent)) _ (all-passed 1 _ (omega arith) (a .taken)) (tt, (le→leb (i .lent .n) (length times) long, tt))))
+    (problem-passed (i .lent) _ (a .taken) ∙ none-failed _ (le→leb (i .lent .n) (length times) long, tt))
     (of-keeps (timesOf times) (clausesOf (i .lent)) (agree-keeps (i .lent .n) (timesOf (m .day)) (timesOf times) same (clausesOf (i .lent)) (a .within) (m .plan .kept)))
   where
     a : Accepted (i .lent)

@@ -1,7 +1,8 @@
--- The input as it is lent, its refusals, and what the screen and every lent element hold afterwards: 01, "What the table is given" and "What the screen may say".
+-- The input as it is lent, its refusals, and what the screen and every lent element hold afterwards: 01, "What the table is given" and "What the screen may say",
+-- as A6 amends it.
 -- Definitions only.
 use mathlib.Core.Path.{_≡_}
-use mathlib.Core.Bool.{Bool, true, false, cond, _&&_}
+use mathlib.Core.Bool.{Bool, true, false, cond, _&&_, _||_}
 use mathlib.Core.List.{List, [], _∷_, _++_}
 use Prim.Native.Nat.{ℕ, zero, suc, _+_, _-_, _*_, _/_, _%_}
 use lib.Dec.{leb, eqb}
@@ -53,12 +54,12 @@ unfoldable pub stepped : ℕ → ℕ → List ℕ → Bool
 stepped last from [] = eqb from last
 stepped last from (e ∷ counts) = leb from e && leb e (from + mostInClause) && stepped last e counts
 
--- both event numbers of each triple pass
-unfoldable pub events : (ℤ → Bool) → List ℤ → Bool
+-- the two event numbers of each triple pass
+unfoldable pub events : (ℤ → ℤ → Bool) → List ℤ → Bool
 events f [] = true
 events f (x ∷ []) = true
 events f (x ∷ (y ∷ [])) = true
-events f (x ∷ (y ∷ (c ∷ more))) = f x && f y && events f more
+events f (x ∷ (y ∷ (c ∷ more))) = f x y && events f more
 
 -- the bound of each triple passes
 unfoldable pub bounds : (ℤ → Bool) → List ℤ → Bool
@@ -70,39 +71,51 @@ bounds f (x ∷ (y ∷ (c ∷ more))) = f c && bounds f more
 abbrev pub isEvent : ℕ → ℤ → Bool
 isEvent n x = leZ (pos 0) x && ltZ x (pos n)
 
+abbrev pub areEvents : ℕ → ℤ → ℤ → Bool
+areEvents n x y = isEvent n x && isEvent n y
+
+-- x is not y: one lies below the other
+abbrev pub areApart : ℤ → ℤ → Bool
+areApart x y = ltZ x y || ltZ y x
+
 abbrev pub isBound : ℤ → Bool
 isBound c = leb (natAbs c) mostBound
 
--- what refusals 1 to 6 ask of a problem, in their order
-unfoldable pub problemTests : Lent → List Bool
+-- a test, and beside it the number that refuses where it fails
+abbrev pub Test : Type 0
+Test = ℕ × Bool
+
+-- what is asked of a problem everywhere, in the order in which it is looked for: 01's refusals 1 to 6, and A6's 12 "after 5 and before 6"
+unfoldable pub problemTests : Lent → List Test
 problemTests l =
-    (leb 1 (l .n) && leb (l .n) mostEvents)
-    ∷ leb (length (l .counts)) mostClauses
-    ∷ (eqb (length (l .triples) % 3) 0 && leb (length (l .triples)) (3 * mostAlternatives))
-    ∷ stepped (length (l .triples) / 3) 0 (l .counts)
-    ∷ events (isEvent (l .n)) (l .triples)
-    ∷ bounds isBound (l .triples)
+    (1, leb 1 (l .n) && leb (l .n) mostEvents)
+    ∷ (2, leb (length (l .counts)) mostClauses)
+    ∷ (3, eqb (length (l .triples) % 3) 0 && leb (length (l .triples)) (3 * mostAlternatives))
+    ∷ (4, stepped (length (l .triples) / 3) 0 (l .counts))
+    ∷ (5, events (areEvents (l .n)) (l .triples))
+    ∷ (12, events areApart (l .triples))
+    ∷ (6, bounds isBound (l .triples))
     ∷ []
 
--- what 7 and 8 ask besides
-unfoldable pub planTests : Input → List Bool
+-- what `plan` asks besides
+unfoldable pub planTests : Input → List Test
 planTests i =
-    leb (i .allowance) mostAllowance
-    ∷ (leb (i .lent .n) (i .times) && leb (length (i .lent .counts)) (i .picks))
+    (7, leb (i .allowance) mostAllowance)
+    ∷ (8, leb (i .lent .n) (i .times) && leb (length (i .lent .counts)) (i .picks))
     ∷ []
 
--- "lowest first where several apply": the place, counted from i, of the first test that fails, or 0
-unfoldable pub firstFailed : ℕ → List Bool → ℕ
-firstFailed i [] = 0
-firstFailed i (b ∷ more) = let r = firstFailed (suc i) more in cond b r i
+-- a refusal's number, wherever one is given: the one beside the first test that fails, or 0 where none does
+unfoldable pub firstFailed : List Test → ℕ
+firstFailed [] = 0
+firstFailed (t ∷ more) = let r = firstFailed more in cond (t .1) r (t .0)
 
--- refusals 1 to 6, or 0
+-- of a problem: 1 2 3 4 5 12 6, or 0
 unfoldable pub problemRefusal : Lent → ℕ
-problemRefusal l = firstFailed 1 (problemTests l)
+problemRefusal l = firstFailed (problemTests l)
 
--- refusals 1 to 8, or 0
+-- of a call of `plan`: 1 2 3 4 5 12 6 7 8, or 0
 unfoldable pub refusal : Input → ℕ
-refusal i = firstFailed 1 (problemTests (i .lent) ++ planTests i)
+refusal i = firstFailed (problemTests (i .lent) ++ planTests i)
 
 -- ---- the screen
 -- the answer, the timetable and the picks as they are left, and the rows that the reasons begin with

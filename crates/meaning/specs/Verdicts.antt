@@ -32,9 +32,9 @@ unfoldable pub keeps : Timetable → List Clause → Bool
 keeps t [] = true
 keeps t (c ∷ cs) = some t c && keeps t cs
 
--- "refusals 1 to 6, then 8 if the timetable is shorter than n": 7 is never failed
+-- "refusals 1 to 6, then 8 if the timetable is shorter than n"; 12 as A6 has it
 unfoldable pub timetableRefusal : Lent → List ℤ → ℕ
-timetableRefusal l times = firstFailed 1 (problemTests l ++ true ∷ leb (l .n) (length times) ∷ [])
+timetableRefusal l times = firstFailed (problemTests l ++ (8, leb (l .n) (length times)) ∷ [])
 
 -- "yes exactly when its first n times keep the problem"
 unfoldable pub timetableVerdict : Lent → List ℤ → Verdict

@@ -1,28 +1,27 @@
--- Refusals 1 to 8 of a call, by those of its problem. Assumes nothing.
+-- The refusals of a call: its problem's, then 7 and 8. Assumes nothing.
 use mathlib.Core.Path.{_≡_, refl, sym, ap₂, _∙_}
 use mathlib.Core.List.{List}
 use Prim.Native.Nat.{ℕ, _<_, _≤_}
-use native.Mathlib.Omega.{arith}
 use borrow.Author.Tests.{lt-leb, le-leb}
 use lib.Dec.{leb, leb→le}
 use lib.IntN.{ℤ}
 use lib.ListN.{length}
 use mir.Facts.{and-yes}
 use Rattle.meaning.specs.Limits.{mostAllowance}
-use Rattle.meaning.specs.Screen.{Input, problemTests, planTests, firstFailed, problemRefusal, refusal}
-use Rattle.meaning.proofs.Accepted.{Passed, all-passed, front-first, passed-over, plan-problem}
+use Rattle.meaning.specs.Screen.{Input, planTests, firstFailed, problemRefusal, refusal}
+use Rattle.meaning.proofs.Refusals.{numbered, all-passed, problem-first, problem-passed, plan-problem}
 use Rattle.planner.specs.Call.{call}
 
 module _ (i : Input) where
   pub refused-problem : 0 < problemRefusal (i .lent) → problemRefusal (i .lent) ≡ refusal i
-  unfolding problemRefusal refusal
-  refused-problem h = sym (front-first 1 (problemTests (i .lent)) (planTests i) h)
+  unfolding refusal
+  refused-problem h = sym (problem-first (i .lent) (planTests i) h)
 
   module _ (z : problemRefusal (i .lent) ≡ 0) where
     -- where the problem is accepted, 7 and 8 are left
-    left : refusal i ≡ firstFailed 7 (planTests i)
-    unfolding problemRefusal refusal problemTests
-    left = passed-over 1 (problemTests (i .lent)) (planTests i) (all-passed 1 (problemTests (i .lent)) (omega arith) z)
+    left : refusal i ≡ firstFailed (planTests i)
+    unfolding refusal
+    left = problem-passed (i .lent) (planTests i) z
 
     pub refused-allowance : mostAllowance < i .allowance → 7 ≡ refusal i
     unfolding planTests firstFailed
@@ -49,9 +48,9 @@ pub record Room (i : Input) : Type 0 where
   pub picks : length (i .lent .counts) ≤ i .picks
 
 pub room-of : (i : Input) → refusal i ≡ 0 → Room i
-unfolding planTests
+unfolding planTests numbered
 room-of i e =
-    let p : Passed (planTests i) = all-passed 7 (planTests i) (omega arith) (sym (left i (plan-problem i e)) ∙ e) in
+    let p = all-passed (planTests i) tt (sym (left i (plan-problem i e)) ∙ e) in
     record {
       allowed = leb→le (i .allowance) mostAllowance (p .0);
       times = leb→le (i .lent .n) (i .times) (and-yes (leb (i .lent .n) (i .times)) (leb (length (i .lent .counts)) (i .picks)) (p .1 .0) .0);

@@ -36,7 +36,7 @@ const NO_TIME: i32 = 1;
 
 const BLANK: u8 = 255;
 
-// The refusal's number, 1 to 8, or 0 with the problem.
+// The refusal's number, or 0 with the problem: the problem's own, then 7 and 8.
 fn admitted(
     n: u32,
     triples: &[i32],

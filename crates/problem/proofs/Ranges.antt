@@ -1,4 +1,4 @@
--- The tests of one event number and of one bound, by comparisons of signed numbers. Assumes nothing.
+-- The tests of event numbers and of one bound, by comparisons of signed numbers. Assumes nothing.
 use mathlib.Core.Path.{_≡_, refl, sym}
 use mathlib.Core.Bool.{true, false}
 use Prim.Native.Nat.{ℕ, suc, _-_, _≤_, _<_}
@@ -11,7 +11,9 @@ use lib.Signed.{ltZ, leZ, nonNeg}
 use mir.Syntax.{w32}
 use mir.Val.{SFits, Fits}
 use Rattle.meaning.specs.Limits.{mostBound}
-use Rattle.meaning.specs.Screen.{isEvent, isBound}
+use Rattle.meaning.specs.Screen.{isEvent, areApart, isBound}
+use Rattle.meaning.proofs.Accepted.{apart-differ, differ-apart}
+use Rattle.laws.proofs.Tests.{is-true, is-false}
 
 differ : false ≡ true → ⊥
 differ e = let z : _≡_ {A = ℕ} 0 1 = cc in omega arith
@@ -27,6 +29,12 @@ event-from n (negsuc k) e = absurd (differ (sym e))
 pub event-fits : (x : ℤ) → SFits w32 x → ltZ x (pos 0) ≡ false → T (nonNeg x) × Fits w32 (natAbs x)
 event-fits (pos k) h e = (tt, record { fits = omega arith })
 event-fits (negsuc k) h e = absurd (differ (sym e))
+
+pub same-not-apart : (x y : ℤ) → x ≡ y → areApart x y ≡ false
+same-not-apart x y e = is-false (areApart x y) (λ t. apart-differ x y t e)
+
+pub other-apart : (x y : ℤ) → (x ≡ y → ⊥) → areApart x y ≡ true
+other-apart x y f = is-true (areApart x y) (differ-apart x y f)
 
 pub bound-below : (c : ℤ) → ltZ c (negℤ (pos mostBound)) ≡ true → false ≡ isBound c
 bound-below (pos n) e = absurd (differ e)

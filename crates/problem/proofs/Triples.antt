@@ -12,7 +12,7 @@ use lib.Seq.{drop-cons}
 use Rattle.meaning.specs.Limits.{mostBound}
 use Rattle.meaning.specs.Problem.{Alternative}
 use Rattle.meaning.specs.Plain.{nowhere}
-use Rattle.meaning.specs.Screen.{alternatives, events, bounds, isEvent, isBound}
+use Rattle.meaning.specs.Screen.{alternatives, events, bounds, areEvents, isBound}
 use Rattle.meaning.proofs.Accepted.{Event, first-events, first-bound}
 
 -- triple j of the list, as the alternative of a number
@@ -42,7 +42,7 @@ pub alternative-at : (j : ℕ) (ts : List ℤ) → j * 3 + 2 < length ts → get
 alternative-at j ts h = let z : 0 + j ≡ j = omega arith in numbered-at 0 j ts h ∙ ap (λ (k : ℕ). triple k ts j) z
 
 -- ---- what the tests say of each
-pub events-at : (n : ℕ) (ts : List ℤ) → T (events (isEvent n) ts) → (j : ℕ) → j * 3 + 2 < length ts → Event n (getD ts (j * 3) (pos 0)) × Event n (getD ts (j * 3 + 1) (pos 0))
+pub events-at : (n : ℕ) (ts : List ℤ) → T (events (areEvents n) ts) → (j : ℕ) → j * 3 + 2 < length ts → Event n (getD ts (j * 3) (pos 0)) × Event n (getD ts (j * 3 + 1) (pos 0))
 unfolding events
 events-at n [] t j h = absurd (not-suc-le-zero h)
 events-at n (x ∷ []) t j h = absurd (omega arith)
@@ -73,11 +73,11 @@ drop-three ts i h =
     ∙ ap (λ (l : List ℤ). getD ts i (pos 0) ∷ l) (drop-cons ts (suc i) (pos 0) (omega arith) ∙ ap (λ (l : List ℤ). getD ts (suc i) (pos 0) ∷ l) (drop-cons ts (suc (suc i)) (pos 0) (omega arith)))
     ∙ rw (p, q, r) refl
 
-pub events-step : (f : ℤ → Bool) (i : ℕ) (ts : List ℤ) → i + 2 < length ts → events f (drop i ts) ≡ f (getD ts i (pos 0)) && f (getD ts (i + 1) (pos 0)) && events f (drop (i + 3) ts)
+pub events-step : (f : ℤ → ℤ → Bool) (i : ℕ) (ts : List ℤ) → i + 2 < length ts → events f (drop i ts) ≡ f (getD ts i (pos 0)) (getD ts (i + 1) (pos 0)) && events f (drop (i + 3) ts)
 unfolding events
 events-step f i ts h = rw (drop-three ts i h) refl
 
-pub events-end : (f : ℤ → Bool) (i : ℕ) (ts : List ℤ) → length ts ≤ i → events f (drop i ts) ≡ true
+pub events-end : (f : ℤ → ℤ → Bool) (i : ℕ) (ts : List ℤ) → length ts ≤ i → events f (drop i ts) ≡ true
 unfolding events
 events-end f i ts h = rw (drop-of-length-le ts h) refl
 

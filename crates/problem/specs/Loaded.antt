@@ -7,7 +7,7 @@ use lib.IntN.{ℤ, pos, natAbs, _+ℤ_}
 use lib.ListN.{length, replicate}
 use Rattle.meaning.specs.Limits.{mostEvents, mostClauses, mostAlternatives}
 use Rattle.meaning.specs.Problem.{Alternative, opposite}
-use Rattle.meaning.specs.Screen.{Lent, alternatives, events, bounds, isEvent, isBound}
+use Rattle.meaning.specs.Screen.{Lent, alternatives, events, bounds, areEvents, isBound}
 use Rattle.problem.specs.declared.Problem.{Problem}
 use Rattle.problem.specs.Arcs.{bias}
 
@@ -29,7 +29,7 @@ pub record Loadable (triples : List ℤ) (many : ℕ) : Type 0 where
   pub few : many ≤ mostAlternatives
   pub n : ℕ
   pub most : n ≤ mostEvents
-  pub events : T (events (isEvent n) triples)
+  pub events : T (events (areEvents n) triples)
   pub bounds : T (bounds isBound triples)
 
 -- the arcs of the alternatives of the triples

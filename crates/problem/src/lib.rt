@@ -5,7 +5,7 @@ ghost use Prim.Native.Nat.{ℕ, suc, _*_, _<_, _≤_, _%_};
 ghost use lib.IntN.{ℤ, pos, natAbs};
 ghost use lib.ListN.{length, getD};
 ghost use Rattle.meaning.specs.Limits.{mostEvents, mostClauses, mostAlternatives};
-ghost use Rattle.meaning.specs.Screen.{stepped, events, bounds, isEvent, isBound, problemRefusal};
+ghost use Rattle.meaning.specs.Screen.{stepped, events, bounds, isEvent, areEvents, areApart, isBound, problemRefusal};
 ghost use Rattle.problem.specs.Reads.{given, Reads};
 ghost use Rattle.problem.specs.Loaded.{placed, Holds, Loadable, noProblem, loaded};
 
@@ -100,7 +100,7 @@ fn is_bound(c: i32) -> bool
 // Whether all event numbers of the triples are.
 fn all_events(n: u32, triples: &[i32]) -> bool
     requires { ⌜ length (now triples) % 3 ≡ 0 ⌝ }
-    ensures { λ r. ⌜ r ≡ events (isEvent n) (now (triples .entry)) ⌝ }
+    ensures { λ r. ⌜ r ≡ events (areEvents n) (now (triples .entry)) ⌝ }
 {
     let mut i = 0;
     while i < triples.len() {
@@ -111,6 +111,21 @@ fn all_events(n: u32, triples: &[i32]) -> bool
             return false;
         }
         i += 3;
+    }
+    true
+}
+
+// Whether no triple holds an event against itself.
+fn all_apart(triples: &[i32]) -> bool
+    requires { ⌜ length (now triples) % 3 ≡ 0 ⌝ }
+    ensures { λ r. ⌜ r ≡ events areApart (now (triples .entry)) ⌝ }
+{
+    let mut at = 0;
+    while at < triples.len() {
+        if triples[at] == triples[at + 1] {
+            return false;
+        }
+        at += 3;
     }
     true
 }
@@ -130,7 +145,7 @@ fn all_bounds(triples: &[i32]) -> bool
     true
 }
 
-// The lowest refusal number of 1 to 6 that applies, or 0.
+// The refusal's number, or 0: the first that applies of 1 2 3 4 5 12 6.
 pub fn refusal(n: u32, triples: &[i32], counts: &[u32]) -> u8
     ensures { λ r. ⌜ r ≡ problemRefusal (given n (now (triples .entry)) (now (counts .entry))) ⌝ }
 {
@@ -154,6 +169,9 @@ pub fn refusal(n: u32, triples: &[i32], counts: &[u32]) -> u8
     }
     if !all_events(n, triples) {
         return 5;
+    }
+    if !all_apart(triples) {
+        return 12;
     }
     if !all_bounds(triples) {
         return 6;

@@ -1,8 +1,8 @@
--- The verdicts by their refusals: 1 to 6 of the problem, then 8 of a timetable shorter than n. Assumes nothing.
-use mathlib.Core.Path.{_≡_, refl, sym, ap, _∙_}
-use mathlib.Core.Bool.{Bool, true, false}
-use mathlib.Core.List.{List, [], _∷_, _++_}
-use Prim.Native.Nat.{ℕ, zero, suc, _+_, _<_, _≤_}
+-- The verdicts by their refusals: those of the problem, then 8 of a timetable shorter than n. Assumes nothing.
+use mathlib.Core.Path.{_≡_, refl, sym, _∙_}
+use mathlib.Core.Bool.{Bool}
+use mathlib.Core.List.{List, [], _∷_}
+use Prim.Native.Nat.{ℕ, zero, suc, _<_, _≤_}
 use native.Mathlib.Nat.{pos-of-ne-zero}
 use native.Mathlib.Omega.{arith}
 use borrow.Author.Tests.{le-leb, lt-leb}
@@ -13,9 +13,9 @@ use Rattle.meaning.specs.declared.Verdict.the-variants.{Refused}
 use Rattle.meaning.specs.Limits.{rowBytes}
 use Rattle.meaning.specs.Plain.{timesOf}
 use Rattle.meaning.specs.Reasons.{isReading}
-use Rattle.meaning.specs.Screen.{Lent, clausesOf, problemTests, firstFailed, problemRefusal}
+use Rattle.meaning.specs.Screen.{Lent, clausesOf, firstFailed, problemRefusal}
 use Rattle.meaning.specs.Verdicts.{verdict, reasonsVerdict, keeps, timetableRefusal, timetableVerdict}
-use Rattle.meaning.proofs.Accepted.{all-passed, front-first, passed-over}
+use Rattle.meaning.proofs.Refusals.{problem-first, problem-passed}
 use Rattle.problem.specs.declared.Problem.{Problem}
 use Rattle.problem.specs.Laid.{clausesIn}
 use Rattle.problem.specs.Reads.{Reads}
@@ -33,10 +33,10 @@ module _ (l : Lent) (r : ℕ) (e : r ≡ problemRefusal l) where
     reasons-refused list = sym (rw (← e) (refused r (isReading rowBytes (clausesOf l) list) n))
 
     pub timetable-refused : (times : List ℤ) → Refused r ≡ timetableVerdict l times
-    unfolding timetableVerdict timetableRefusal problemRefusal
+    unfolding timetableVerdict timetableRefusal
     timetable-refused times =
-        let o : 0 < firstFailed 1 (problemTests l) = rw (← e) (pos-of-ne-zero n) in
-        sym (rw (front-first 1 (problemTests l) (true ∷ leb (l .n) (length times) ∷ []) o, ← e) (refused r (keeps (timesOf times) (clausesOf l)) n))
+        let o : 0 < problemRefusal l = rw (← e) (pos-of-ne-zero n) in
+        sym (rw (problem-first l ((8, leb (l .n) (length times)) ∷ []) o, ← e) (refused r (keeps (timesOf times) (clausesOf l)) n))
 
   -- an accepted one
   module _ (z : r ≡ 0) (p : Problem) (w : Reads l p) where
@@ -44,9 +44,9 @@ module _ (l : Lent) (r : ℕ) (e : r ≡ problemRefusal l) where
     unfolding reasonsVerdict
     reasons-said list = rw (← e, z, w .clauses) refl
 
-    shorter : (times : List ℤ) → timetableRefusal l times ≡ firstFailed 7 (true ∷ leb (l .n) (length times) ∷ [])
-    unfolding timetableRefusal problemRefusal problemTests
-    shorter times = passed-over 1 (problemTests l) (true ∷ leb (l .n) (length times) ∷ []) (all-passed 1 (problemTests l) (omega arith) (sym e ∙ z))
+    shorter : (times : List ℤ) → timetableRefusal l times ≡ firstFailed ((8, leb (l .n) (length times)) ∷ [])
+    unfolding timetableRefusal
+    shorter times = problem-passed l ((8, leb (l .n) (length times)) ∷ []) (sym e ∙ z)
 
     module _ (times : List ℤ) where
       pub timetable-short : length times < p .n → Refused 8 ≡ timetableVerdict l times

@@ -361,9 +361,9 @@ pub fn read_timetable(n: u32, triples: &[i32], counts: &[u32], timetable: &[i32]
     ensures { λ r. ⌜ r ≡ timetableVerdict (given n (now (triples .entry)) (now (counts .entry))) (now (timetable .entry)) ⌝ }
 {
     let c = problem::check(n, triples, counts);
-    let number = c.number;
-    if number != 0 {
-        return Verdict::Refused { number: number };
+    let own = c.number;
+    if own != 0 {
+        return Verdict::Refused { number: own };
     }
     let p = c.problem;
     if timetable.len() < p.n {

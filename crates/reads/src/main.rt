@@ -61,6 +61,12 @@ fn show_pairs() {
     show_pair(b"D4, an arc that leads elsewhere", -1, -1, &open[..]);
     let foreign = rows_of(0, 65);
     show_pair(b"D4, an opposite that is no fact", -1, -1, &foreign[..]);
+    let mut onward = rows_of(1, 0);
+    onward[ROW] = 240;
+    show_pair(b"D4, onward to the cycle", -1, -1, &onward[..]);
+    onward[2 * ROW] = 240;
+    onward[2 * ROW + 1] = 255;
+    show_pair(b"D4, onward where no clause is left", -1, -1, &onward[..]);
     let mut late = rows_of(1, 0);
     late[ROOM - 1] = 254;
     show_pair(
@@ -101,15 +107,14 @@ fn show_single() {
         b"D5",
         readers::read_reasons(1, &loops[..], &one[..], &list[..]),
     );
-    list[0] = 240;
+    let times = [0];
     show(
-        b"D5, onward",
-        readers::read_reasons(1, &loops[..], &one[..], &list[..]),
+        b"D5, its time",
+        readers::read_timetable(1, &loops[..], &one[..], &times[..]),
     );
-    list[ROW] = 240;
     show(
-        b"D5, onward where no clause is left",
-        readers::read_reasons(1, &loops[..], &one[..], &list[..]),
+        b"D5, no time",
+        readers::read_timetable(1, &loops[..], &one[..], &times[..0]),
     );
     let empty = [0u32];
     let mut mark = [255u8; ROW + 4];

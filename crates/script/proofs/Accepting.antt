@@ -1,11 +1,11 @@
 -- A script that is read gives a problem that 01 accepts, with the alternatives and clauses that its asserts say, in their order. Assumes nothing.
 use mathlib.Core.Path.{_≡_, refl, sym, ap, ap₂, _∙_, subst}
-use mathlib.Core.Bool.{Bool, true, false, _&&_, cond}
+use mathlib.Core.Bool.{Bool, true, false, not, _&&_, cond}
 use mathlib.Core.List.{List, [], _∷_, _++_}
 use mathlib.Core.Option.{Option, none, some}
 use Prim.Native.Nat.{ℕ, zero, suc, _+_, _-_, _*_, _/_, _%_, _≤_, _<_}
 use native.Mathlib.Omega.{arith}
-use mir.Facts.{and-yes, yes-and, ltb-yes, leb-yes, eqb-yes}
+use mir.Facts.{and-yes, yes-and, ltb-yes, leb-yes, eqb-yes, eqb-no}
 use lib.Dec.{T, leb, ltb, eqb, le→leb, lt→ltb, eqb-refl}
 use lib.IntN.{ℤ, pos, negsuc, natAbs}
 use lib.ListN.{length, take, drop, length-append, length-drop}
@@ -13,8 +13,9 @@ use lib.Seq.{take-all, take-append-le, drop-drop, drop-append-le}
 use Rattle.laws.proofs.Tests.{is-true, never}
 use Rattle.meaning.specs.Limits.{mostEvents, mostClauses, mostInClause, mostAlternatives, mostBound}
 use Rattle.meaning.specs.Problem.{Alternative, Clause}
-use Rattle.meaning.specs.Screen.{Lent, alternatives, parted, clausesOf, stepped, events, bounds, isEvent, isBound, problemTests, problemRefusal}
-use Rattle.meaning.proofs.Accepted.{none-failed, first-count, alternatives-count}
+use Rattle.meaning.specs.Screen.{Lent, alternatives, parted, clausesOf, stepped, events, bounds, isEvent, areEvents, areApart, isBound, problemTests, problemRefusal}
+use Rattle.meaning.proofs.Refusals.{none-failed}
+use Rattle.meaning.proofs.Accepted.{first-pair, differ-apart, first-count, alternatives-count}
 use Rattle.dialogue.specs.Words.{unsignedOf}
 use Rattle.dialogue.proofs.Spelling.{unsigned-most}
 use Rattle.grammar.specs.Grammar.{Role, other, newName, firstName, secondName, boundDigit, negatedDigit, declarationEnd, assertEnd, checkEnd, script}
@@ -22,7 +23,7 @@ use Rattle.grammar.specs.Place.{placeFrom}
 use Rattle.grammar.specs.Pieces.{Piece, pieces}
 use Rattle.grammar.proofs.Atoms.{Taken, Whole, whole}
 use Rattle.script.specs.Words.{eventOf, isDeclared, isNew}
-use Rattle.script.specs.Reading.{Read, Answer, going, refused, unless, signed, found, withNew, withEvent, withBound, withName, withClause, withCheck, readPiece, andThen, readAll, settled, nothingRead, answerAt}
+use Rattle.script.specs.Reading.{Read, Answer, going, refused, unless, signed, found, withNew, isAgain, withEvent, withBound, withName, withClause, withCheck, readPiece, andThen, readAll, settled, nothingRead, answerAt}
 
 -- the problem that was read, as 01 has it lent
 abbrev pub lentOf : Read → Lent
@@ -33,14 +34,14 @@ module _ (x y c : ℤ) where
   abbrev more : List ℤ
   more = x ∷ y ∷ c ∷ []
 
-  events-more : (f : ℤ → Bool) (ts : List ℤ) → length ts % 3 ≡ 0 → T (events f ts) → T (f x) → T (f y) → T (events f (ts ++ more))
+  events-more : (f : ℤ → ℤ → Bool) (ts : List ℤ) → length ts % 3 ≡ 0 → T (events f ts) → T (f x y) → T (events f (ts ++ more))
   unfolding events
-  events-more f [] m t p q = yes-and (f x && f y) true (yes-and (f x) (f y) p q) tt
-  events-more f (a ∷ []) m t p q = absurd (omega arith)
-  events-more f (a ∷ (b ∷ [])) m t p q = absurd (omega arith)
-  events-more f (a ∷ (b ∷ (d ∷ ts))) m t p q =
-      let two = and-yes (f a && f b) (events f ts) t in
-      yes-and (f a && f b) (events f (ts ++ more)) (two .0) (events-more f ts (omega arith) (two .1) p q)
+  events-more f [] m t p = yes-and (f x y) true p tt
+  events-more f (a ∷ []) m t p = absurd (omega arith)
+  events-more f (a ∷ (b ∷ [])) m t p = absurd (omega arith)
+  events-more f (a ∷ (b ∷ (d ∷ ts))) m t p =
+      let two = first-pair f a b d ts t in
+      yes-and (f a b) (events f (ts ++ more)) (two .0) (events-more f ts (omega arith) (two .1) p)
 
   bounds-more : (f : ℤ → Bool) (ts : List ℤ) → length ts % 3 ≡ 0 → T (bounds f ts) → T (f c) → T (bounds f (ts ++ more))
   unfolding bounds
@@ -68,15 +69,15 @@ said-atom ts x y c m =
     alternatives-more (pos x) (pos y) c 0 ts m ∙ ap (λ (k : ℕ). alternatives 0 ts ++ (record { no = k; x = x; y = y; c = c } ∷ [])) q
 
 -- events below n lie below what is no less
-events-below : (n k : ℕ) → n ≤ k → (ts : List ℤ) → T (events (isEvent n) ts) → T (events (isEvent k) ts)
+events-below : (n k : ℕ) → n ≤ k → (ts : List ℤ) → T (events (areEvents n) ts) → T (events (areEvents k) ts)
 unfolding events
 events-below n k h [] t = tt
 events-below n k h (x ∷ []) t = tt
 events-below n k h (x ∷ (y ∷ [])) t = tt
 events-below n k h (x ∷ (y ∷ (c ∷ ts))) t =
-    let two = and-yes (isEvent n x && isEvent n y) (events (isEvent n) ts) t in
+    let two = first-pair (areEvents n) x y c ts t in
     let each = and-yes (isEvent n x) (isEvent n y) (two .0) in
-    yes-and (isEvent k x && isEvent k y) (events (isEvent k) ts) (yes-and (isEvent k x) (isEvent k y) (wider x (each .0)) (wider y (each .1)))
+    yes-and (areEvents k x y) (events (areEvents k) ts) (yes-and (isEvent k x) (isEvent k y) (wider x (each .0)) (wider y (each .1)))
     (events-below n k h ts (two .1))
   where
     wider : (z : ℤ) → T (isEvent n z) → T (isEvent k z)
@@ -86,8 +87,11 @@ events-below n k h (x ∷ (y ∷ (c ∷ ts))) t =
         yes-and (leb 0 a) (ltb a k) (two .0) (lt→ltb a k (omega arith))
     wider (negsuc a) s = absurd s
 
-event-below : (n a : ℕ) → a < n → T (isEvent n (pos a))
-event-below n a h = yes-and (leb 0 a) (ltb a n) (le→leb 0 a (omega arith)) (lt→ltb a n h)
+events-known : (n a b : ℕ) → a < n → b < n → T (areEvents n (pos a) (pos b))
+events-known n a b h k = yes-and (isEvent n (pos a)) (isEvent n (pos b)) (known a h) (known b k)
+  where
+    known : (e : ℕ) → e < n → T (isEvent n (pos e))
+    known e l = yes-and (leb 0 e) (ltb e n) (le→leb 0 e (omega arith)) (lt→ltb e n l)
 
 -- ---- one clause more
 stepped-to : (last from : ℕ) (counts : List ℕ) → T (stepped last from counts) → from ≤ last
@@ -151,13 +155,16 @@ said-no-clause R last x y c t l m =
     ∙ parted-apart last 0 (R .counts) (alternatives 0 (R .triples)) (record { no = length (R .triples) / 3; x = x; y = y; c = c } ∷ []) t (omega (arith, count))
 
 -- ---- what holds on the way
--- of the names, the events of the open atom and the alternatives; before the first name, event 0 may be named and nothing else
-pub record Known (e : Bool) (n x y : ℕ) (triples : List ℤ) : Type 0 where
+-- of the names, the events of the open atom and the alternatives; before the first name, event 0 may be named and nothing else; once the second
+-- name was read, the open atom has two events
+pub record Known (p e : Bool) (n x y : ℕ) (triples : List ℤ) : Type 0 where
   few : n ≤ mostEvents
   some-name : T e → 1 ≤ n
   x-named : x < suc (n - 1)
   y-named : y < suc (n - 1)
-  named : T (events (isEvent (suc (n - 1))) triples)
+  other-named : T p → x ≡ y → ⊥
+  named : T (events (areEvents (suc (n - 1))) triples)
+  apart : T (events areApart triples)
 
 -- of the alternatives and clauses, h alternatives standing past the last count
 pub record Counted (h : ℕ) (triples : List ℤ) (counts : List ℕ) : Type 0 where
@@ -169,23 +176,23 @@ pub record Counted (h : ℕ) (triples : List ℤ) (counts : List ℕ) : Type 0 w
   few-clauses : length counts ≤ mostClauses
   bounded : T (bounds isBound triples)
 
-abbrev pub Good : ℕ → Bool → Read → Type 0
-Good h e R = Known e (length (R .names)) (R .x) (R .y) (R .triples) × Counted h (R .triples) (R .counts)
+abbrev pub Good : ℕ → Bool → Bool → Read → Type 0
+Good h p e R = Known p e (length (R .names)) (R .x) (R .y) (R .triples) × Counted h (R .triples) (R .counts)
 
 pub threes : {h : ℕ} {triples : List ℤ} {counts : List ℕ} → Counted h triples counts → length triples % 3 ≡ 0
 threes r = omega (arith, r .since)
 
-pub begins : Good 0 false nothingRead
+pub begins : Good 0 false false nothingRead
 unfolding stepped events bounds
 begins = (
-  record { few = omega arith; some-name = λ t. absurd t; x-named = omega arith; y-named = omega arith; named = tt },
+  record { few = omega arith; some-name = λ t. absurd t; x-named = omega arith; y-named = omega arith; other-named = λ t. absurd t; named = tt; apart = tt },
   record { last = 0; steps = tt; since = refl; short = omega arith; few = omega arith; few-clauses = omega arith; bounded = tt },
 )
 
--- at the end: the tests of refusals 1 to 6 are passed
-accepts : (R : Read) → Good 0 true R → problemRefusal (lentOf R) ≡ 0
+-- at the end: the tests of a problem are passed
+accepts : (p : Bool) (R : Read) → Good 0 p true R → problemRefusal (lentOf R) ≡ 0
 unfolding problemRefusal problemTests
-accepts R (a, r) =
+accepts p R (a, r) =
     let n : ℕ = length (R .names) in
     let L : ℕ = length (R .triples) in
     let some-event : 1 ≤ n = a .some-name tt in
@@ -194,43 +201,61 @@ accepts R (a, r) =
     let sizes : T (leb 1 n && leb n mostEvents) = yes-and (leb 1 n) (leb n mostEvents) (le→leb 1 n some-event) (le→leb n mostEvents (a .few)) in
     let few-numbers : T (leb L (3 * mostAlternatives)) = le→leb L (3 * mostAlternatives) (omega (arith, r .since, r .few)) in
     let numbers : T (eqb (L % 3) 0 && leb L (3 * mostAlternatives)) = rw (threes r) few-numbers in
-    none-failed 1 _ (sizes, (le→leb (length (R .counts)) mostClauses (r .few-clauses), (numbers, (rw all (r .steps), (rw whole-again at (a .named), (r .bounded, tt))))))
+    none-failed _ (sizes, (le→leb (length (R .counts)) mostClauses (r .few-clauses), (numbers, (rw all (r .steps), (rw whole-again at (a .named), (a .apart, (r .bounded, tt)))))))
 
 -- ---- what a piece gives, if it is taken
 pub unless-going : (ok : Bool) (number place : ℕ) (r Q : Read) → unless ok number place r ≡ going Q → T ok × (r ≡ Q)
 unless-going true number place r Q p = (tt, cc)
 unless-going false number place r Q p = absurd (never (cc))
 
+-- a name of an atom: it is declared, and as the second it is not the first again
+pub event-going : (second : Bool) (from : ℕ) (w : List ℕ) (R Q : Read) → withEvent second from w R ≡ going Q → (eventOf (R .names) w < length (R .names)) × T (not (isAgain second (R .x) (eventOf (R .names) w))) × (found second (eventOf (R .names) w) R ≡ Q)
+unfolding withEvent
+event-going second from w R Q p = go (isDeclared (R .names) w) (λ t. ltb-yes t) p
+  where
+    event : ℕ
+    event = eventOf (R .names) w
+
+    go : (ok : Bool) → (T ok → event < length (R .names)) → cond ok (unless (not (isAgain second (R .x) event)) 12 0 (found second event R)) (refused 20 from) ≡ going Q → (event < length (R .names)) × T (not (isAgain second (R .x) event)) × (found second event R ≡ Q)
+    go false f q = absurd (never (cc))
+    go true f q = let two = unless-going (not (isAgain second (R .x) event)) 12 0 (found second event R) Q q in (f tt, two .0, two .1)
+
 bound-kept : (negated : Bool) (v : ℕ) → v ≤ mostBound → T (isBound (signed negated v))
 bound-kept false v h = le→leb v mostBound h
 bound-kept true zero h = tt
 bound-kept true (suc v) h = le→leb (suc v) mostBound h
 
-module _ (h : ℕ) (e : Bool) (R : Read) (g : Good h e R) where
+module _ (h : ℕ) (p e : Bool) (R : Read) (g : Good h p e R) where
   -- what is said of the piece goes on at Q
-  abbrev Goes : (ℕ → Bool → Type 0) → Read → Type 0
-  Goes W Q = (k : ℕ) × (x : Bool) × W k x × Good k x Q
+  abbrev Goes : (ℕ → Bool → Bool → Type 0) → Read → Type 0
+  Goes W Q = (k : ℕ) × (o : Bool) × (x : Bool) × W k o x × Good k o x Q
 
-  module _ (W : ℕ → Bool → Type 0) (Q : Read) where
-    new-good : (from : ℕ) (w : List ℕ) → W h e → withNew from w R ≡ going Q → Goes W Q
+  module _ (W : ℕ → Bool → Bool → Type 0) (Q : Read) where
+    new-good : (from : ℕ) (w : List ℕ) → W h p e → withNew from w R ≡ going Q → Goes W Q
     unfolding withNew
-    new-good from w t p = subst (Goes W) (unless-going (isNew (R .names) w) 20 from _ Q p .1) (h, e, t, g)
+    new-good from w t q = subst (Goes W) (unless-going (isNew (R .names) w) 20 from _ Q q .1) (h, p, e, t, g)
 
-    event-good : (second : Bool) (from : ℕ) (w : List ℕ) → W h e → withEvent second from w R ≡ going Q → Goes W Q
-    unfolding withEvent
-    event-good second from w t p =
-        let two = unless-going (isDeclared (R .names) w) 20 from (found second (eventOf (R .names) w) R) Q p in
-        let l : eventOf (R .names) w < length (R .names) = ltb-yes (two .0) in
-        subst (Goes W) (two .1) (h, e, t, good second l)
+    -- the first name of an atom leaves it open which event comes second; the second is another
+    event-good : (second : Bool) (from : ℕ) (w : List ℕ) → W h second e → withEvent second from w R ≡ going Q → Goes W Q
+    event-good second from w t q =
+        let three = event-going second from w R Q q in
+        subst (Goes W) (three .2) (h, second, e, t, good second (three .0) (three .1))
       where
-        good : (b : Bool) → eventOf (R .names) w < length (R .names) → Good h e (found b (eventOf (R .names) w) R)
-        good false l = let a = g .0 in (record { few = a .few; some-name = a .some-name; x-named = omega arith; y-named = a .y-named; named = a .named }, g .1)
-        good true l = let a = g .0 in (record { few = a .few; some-name = a .some-name; x-named = a .x-named; y-named = omega arith; named = a .named }, g .1)
+        event : ℕ
+        event = eventOf (R .names) w
 
-    bound-good : (negated : Bool) (o : Option ℕ) → ((v : ℕ) → o ≡ some v → v ≤ mostBound) → (h < 4) × W (suc h) e → withBound negated o R ≡ going Q → Goes W Q
+        good : (b : Bool) → event < length (R .names) → T (not (isAgain b (R .x) event)) → Good h b e (found b event R)
+        good false l o =
+            let a = g .0 in
+            (record { few = a .few; some-name = a .some-name; x-named = omega arith; y-named = a .y-named; other-named = λ t. absurd t; named = a .named; apart = a .apart }, g .1)
+        good true l o =
+            let a = g .0 in
+            (record { few = a .few; some-name = a .some-name; x-named = a .x-named; y-named = omega arith; other-named = λ t same. eqb-no o (sym same); named = a .named; apart = a .apart }, g .1)
+
+    bound-good : (negated : Bool) (o : Option ℕ) → ((v : ℕ) → o ≡ some v → v ≤ mostBound) → (h < 4) × T p × W (suc h) p e → withBound negated o R ≡ going Q → Goes W Q
     unfolding withBound
-    bound-good negated none f t p = absurd (never (cc))
-    bound-good negated (some v) f t p =
+    bound-good negated none f t q = absurd (never (cc))
+    bound-good negated (some v) f t q =
         let a = g .0 in
         let r = g .1 in
         let room : ℕ = suc (length (R .names) - 1) in
@@ -240,15 +265,18 @@ module _ (h : ℕ) (e : Bool) (R : Read) (g : Good h e R) where
         let same : S ≡ Q = cc in
         subst (Goes W) same (
           suc h,
+          p,
           e,
-          t .1,
+          t .2,
           (
             record {
               few = a .few;
               some-name = a .some-name;
               x-named = a .x-named;
               y-named = a .y-named;
-              named = events-more (pos (R .x)) (pos (R .y)) c (isEvent room) (R .triples) (threes r) (a .named) (event-below room (R .x) (a .x-named)) (event-below room (R .y) (a .y-named));
+              other-named = a .other-named;
+              named = events-more (pos (R .x)) (pos (R .y)) c (areEvents room) (R .triples) (threes r) (a .named) (events-known room (R .x) (R .y) (a .x-named) (a .y-named));
+              apart = events-more (pos (R .x)) (pos (R .y)) c areApart (R .triples) (threes r) (a .apart) (differ-apart (pos (R .x)) (pos (R .y)) (λ same. a .other-named (t .1) (ap natAbs same)));
             },
             record {
               last = r .last;
@@ -262,17 +290,18 @@ module _ (h : ℕ) (e : Bool) (R : Read) (g : Good h e R) where
           ),
         )
 
-    name-good : W h e → withName R ≡ going Q → Goes W Q
+    name-good : W h p e → withName R ≡ going Q → Goes W Q
     unfolding withName
-    name-good t p =
+    name-good t q =
         let a = g .0 in
         let n : ℕ = length (R .names) in
         let names : List (List ℕ) = R .names ++ (R .new ∷ []) in
-        let two = unless-going (leb (length names) mostEvents) 1 0 _ Q p in
+        let two = unless-going (leb (length names) mostEvents) 1 0 _ Q q in
         let few-names : length names ≤ mostEvents = leb-yes (two .0) in
         let longer : length names ≡ n + 1 = length-append (R .names) (R .new ∷ []) in
         subst (Goes W) (two .1) (
           h,
+          p,
           e,
           t,
           (
@@ -281,15 +310,17 @@ module _ (h : ℕ) (e : Bool) (R : Read) (g : Good h e R) where
               some-name = λ y. omega arith;
               x-named = omega (arith, a .x-named);
               y-named = omega (arith, a .y-named);
+              other-named = a .other-named;
               named = events-below (suc (n - 1)) (suc (length names - 1)) (omega arith) (R .triples) (a .named);
+              apart = a .apart;
             },
             g .1,
           ),
         )
 
-    clause-good : W 0 e → withClause R ≡ going Q → Goes W Q
+    clause-good : W 0 p e → withClause R ≡ going Q → Goes W Q
     unfolding withClause
-    clause-good t p = go (leb (length counts) mostClauses) (λ y. leb-yes y) p
+    clause-good t q = go (leb (length counts) mostClauses) (λ y. leb-yes y) q
       where
         counts : List ℕ
         counts = R .counts ++ (length (R .triples) / 3 ∷ [])
@@ -307,6 +338,7 @@ module _ (h : ℕ) (e : Bool) (R : Read) (g : Good h e R) where
             let is : k ≡ r .last + h = omega (arith, r .since) in
             subst (Goes W) (two .1) (
               0,
+              p,
               e,
               t,
               (
@@ -323,24 +355,30 @@ module _ (h : ℕ) (e : Bool) (R : Read) (g : Good h e R) where
               ),
             )
 
-    check-good : W h true → withCheck R ≡ going Q → Goes W Q
+    check-good : W h p true → withCheck R ≡ going Q → Goes W Q
     unfolding withCheck
-    check-good t p =
+    check-good t q =
         let a = g .0 in
-        let two = unless-going (leb 1 (length (R .names))) 1 0 R Q p in
-        subst (Goes W) (two .1) (h, true, t, (record { few = a .few; some-name = λ y. leb-yes (two .0); x-named = a .x-named; y-named = a .y-named; named = a .named }, g .1))
+        let two = unless-going (leb 1 (length (R .names))) 1 0 R Q q in
+        subst (Goes W) (two .1) (
+          h,
+          p,
+          true,
+          t,
+          (record { few = a .few; some-name = λ y. leb-yes (two .0); x-named = a .x-named; y-named = a .y-named; other-named = a .other-named; named = a .named; apart = a .apart }, g .1),
+        )
 
-    pub piece-good : (role : Role) (from : ℕ) (w : List ℕ) → Taken role h e W → readPiece role from w R ≡ going Q → Goes W Q
+    pub piece-good : (role : Role) (from : ℕ) (w : List ℕ) → Taken role h p e W → readPiece role from w R ≡ going Q → Goes W Q
     unfolding readPiece
-    piece-good other from w t p = let same : R ≡ Q = cc in subst (Goes W) same (h, e, t, g)
-    piece-good newName from w t p = new-good from w t p
-    piece-good firstName from w t p = event-good false from w t p
-    piece-good secondName from w t p = event-good true from w t p
-    piece-good boundDigit from w t p = bound-good false (unsignedOf mostBound w) (λ v q. unsigned-most mostBound v w q) t p
-    piece-good negatedDigit from w t p = bound-good true (unsignedOf mostBound w) (λ v q. unsigned-most mostBound v w q) t p
-    piece-good declarationEnd from w t p = name-good t p
-    piece-good assertEnd from w t p = clause-good t p
-    piece-good checkEnd from w t p = check-good t p
+    piece-good other from w t q = let same : R ≡ Q = cc in subst (Goes W) same (h, p, e, t, g)
+    piece-good newName from w t q = new-good from w t q
+    piece-good firstName from w t q = event-good false from w t q
+    piece-good secondName from w t q = event-good true from w t q
+    piece-good boundDigit from w t q = bound-good false (unsignedOf mostBound w) (λ v is. unsigned-most mostBound v w is) t q
+    piece-good negatedDigit from w t q = bound-good true (unsignedOf mostBound w) (λ v is. unsigned-most mostBound v w is) t q
+    piece-good declarationEnd from w t q = name-good t q
+    piece-good assertEnd from w t q = clause-good t q
+    piece-good checkEnd from w t q = check-good t q
 
 -- ---- the whole script
 -- pieces that are read: the first is taken, and the others are read after it
@@ -353,33 +391,33 @@ first-read p ps R Q q = go (readPiece (p .role) (p .from) (p .word) R) q
     go (refused number place) y = absurd (never (cc))
 
 -- Piece by piece: what was read before it is good, and so what is read with it; at the end no bound is left over and check-sat was read.
-all-good : (ps : List Piece) (h : ℕ) (e : Bool) (R Q : Read) → Whole h e ps → Good h e R → readAll ps R ≡ going Q → Good 0 true Q
+all-good : (ps : List Piece) (h : ℕ) (p e : Bool) (R Q : Read) → Whole h p e ps → Good h p e R → readAll ps R ≡ going Q → (o : Bool) × Good 0 o true Q
 unfolding readAll
-all-good [] h e R Q (z, t) g p =
+all-good [] h p e R Q (z, t) g q =
     let same : R ≡ Q = cc in
     let done : e ≡ true = is-true e t in
-    subst (Good 0 true) same (rw (z, done) at g)
-all-good (p ∷ ps) h e R Q t g q =
-    let f = first-read p ps R Q q in
-    let n = piece-good h e R g (λ k x. Whole k x ps) (f .0) (p .role) (p .from) (p .word) t (f .1) in
-    all-good ps (n .0) (n .1) (f .0) Q (n .2) (n .3) (f .2)
+    (p, subst (Good 0 p true) same (rw (z, done) at g))
+all-good (piece ∷ ps) h p e R Q t g q =
+    let f = first-read piece ps R Q q in
+    let n = piece-good h p e R g (λ k o x. Whole k o x ps) (f .0) (piece .role) (piece .from) (piece .word) t (f .1) in
+    all-good ps (n .0) (n .1) (n .2) (f .0) Q (n .3) (n .4) (f .2)
 
 -- a script that is read: its pieces make a whole, and they are read
-pub read-whole : (text : List ℕ) (at : ℕ) (R : Read) → answerAt text at ≡ going R → Whole 0 false (pieces at script (drop at text)) × (readAll (pieces at script (drop at text)) nothingRead ≡ going R)
+pub read-whole : (text : List ℕ) (at : ℕ) (R : Read) → answerAt text at ≡ going R → Whole 0 false false (pieces at script (drop at text)) × (readAll (pieces at script (drop at text)) nothingRead ≡ going R)
 unfolding answerAt settled
 read-whole text at R p = go (placeFrom at script (drop at text)) (λ q. whole (drop at text) at q) (readAll (pieces at script (drop at text)) nothingRead) p
   where
-    go : (o : Option ℕ) → (o ≡ none → Whole 0 false (pieces at script (drop at text))) → (a : Answer) → settled o a ≡ going R → Whole 0 false (pieces at script (drop at text)) × (a ≡ going R)
+    go : (o : Option ℕ) → (o ≡ none → Whole 0 false false (pieces at script (drop at text))) → (a : Answer) → settled o a ≡ going R → Whole 0 false false (pieces at script (drop at text)) × (a ≡ going R)
     go none f a q = (f refl, q)
     go (some place) f (going S) q = absurd (never (cc))
     go (some place) f (refused number k) q = absurd (never (cc))
 
-read-good : (text : List ℕ) (at : ℕ) (R : Read) → answerAt text at ≡ going R → Good 0 true R
-read-good text at R p = let f = read-whole text at R p in all-good (pieces at script (drop at text)) 0 false nothingRead R (f .0) begins (f .1)
+read-good : (text : List ℕ) (at : ℕ) (R : Read) → answerAt text at ≡ going R → (o : Bool) × Good 0 o true R
+read-good text at R p = let f = read-whole text at R p in all-good (pieces at script (drop at text)) 0 false false nothingRead R (f .0) begins (f .1)
 
--- "refusals 1 to 6 never follow"
+-- "refusals 1 to 6 never follow", nor does 12
 pub script-accepted : (text : List ℕ) (at : ℕ) (R : Read) → answerAt text at ≡ going R → problemRefusal (lentOf R) ≡ 0
-script-accepted text at R p = accepts R (read-good text at R p)
+script-accepted text at R p = let g = read-good text at R p in accepts (g .0) R (g .1)
 
 -- what was read is within 01's sizes
 pub record Sized (R : Read) : Type 0 where
@@ -389,5 +427,5 @@ pub record Sized (R : Read) : Type 0 where
 
 pub read-sized : (text : List ℕ) (at : ℕ) (R : Read) → answerAt text at ≡ going R → Sized R
 read-sized text at R p =
-    let r = read-good text at R p .1 in
+    let r = read-good text at R p .1 .1 in
     record { threes = threes r; few-numbers = omega (arith, r .since, r .few); few-clauses = r .few-clauses }

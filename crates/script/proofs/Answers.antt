@@ -41,16 +41,25 @@ d1 = refl
 
 worked :
     after-both (
-    "(assert(or(<=(- x y)100000)(<=(- y y)0)))(assert false)(check-sat);end"
+    "(assert(or(<=(- x y)100000)(<=(- y x)0)))(assert false)(check-sat);end"
     ∷ "(assert(<=(- x z" ∷ "(assert(<=(- x z\"" ∷ "(assert(<=(- x yy)0))" ∷ "(declare-const x" ∷ "(declare-const assert Int)" ∷ "(declare-const <= Int)"
     ∷ "(declare-fun abcdefghijklmnopqrstuvwxyz012345 () Int)(check-sat)x" ∷ "(declare-fun abcdefghijklmnopqrstuvwxyz0123456 () Int)"
     ∷ "(assert(<=(- x y)100001" ∷ "(assert(<=(- x y)(- 99999999999999999999))x" ∷ "(assert(<=(- x y)100000x" ∷ "(assert(<=(- x y)03" ∷ "(check-sat" ∷ [])
-    ≡ going (record { names = bytes "x" ∷ bytes "y" ∷ []; new = bytes "y"; x = 1; y = 1; triples = pos 0 ∷ pos 1 ∷ pos 100000 ∷ pos 1 ∷ pos 1 ∷ pos 0 ∷ []; counts = 2 ∷ 2 ∷ [] })
+    ≡ going (record { names = bytes "x" ∷ bytes "y" ∷ []; new = bytes "y"; x = 1; y = 0; triples = pos 0 ∷ pos 1 ∷ pos 100000 ∷ pos 1 ∷ pos 0 ∷ pos 0 ∷ []; counts = 2 ∷ 2 ∷ [] })
     ∷ refused 20 74 ∷ refused 20 74 ∷ refused 20 74 ∷ refused 20 74 ∷ refused 20 74 ∷ refused 20 74
     ∷ refused 20 123 ∷ refused 20 72
     ∷ refused 6 0 ∷ refused 6 0 ∷ refused 20 82 ∷ refused 20 77 ∷ refused 20 69 ∷ []
 unfolding after-both begun answerTo bytes among isA roleNo spelled blank gap parting opening closingAs symbolAs numeralAs bound difference atom optional held declared command setLogic checkSat script ends live follow isNone choose after roleOf placeFrom joinTo pieces sameWord keptWords oneOf eventOf isNew areDigits valueFrom digitsFrom unsignedOf withNew withEvent withBound withName withClause withCheck readPiece readAll settled answerAt
 worked = refl
+
+-- 12 at the end of the second name, place 0: in the last atom of an or, where the text breaks off, before a bound too large, before what is not
+-- allowed; a fault that is complete before it comes first: a name that is not declared, a bound too large
+against-itself :
+    after-both (
+    "(assert(or(<=(- x y)0)(<=(- y y)0)))(check-sat)" ∷ "(assert(<=(- x x" ∷ "(assert(<=(- y y)100001" ∷ "(assert(<=(- y y(" ∷ "(assert(<=(- z z" ∷ "(assert(<=(- x xx" ∷ "(assert(or(<=(- x y)100001)(<=(- x x" ∷ [])
+    ≡ refused 12 0 ∷ refused 12 0 ∷ refused 12 0 ∷ refused 12 0 ∷ refused 20 72 ∷ refused 20 74 ∷ refused 6 0 ∷ []
+unfolding after-both begun answerTo bytes among isA roleNo spelled blank gap parting opening closingAs symbolAs numeralAs bound difference atom optional held declared command setLogic checkSat script ends live follow isNone choose after roleOf placeFrom joinTo pieces sameWord keptWords oneOf eventOf isNew areDigits valueFrom digitsFrom unsignedOf withNew withEvent withBound withName withClause withCheck readPiece readAll settled answerAt
+against-itself = refl
 
 -- another logic; no event; 33 asserts; 68 alternatives, and 33 asserts with 132, where 2 comes first
 sizes :

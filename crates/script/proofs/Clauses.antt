@@ -5,7 +5,6 @@ use mathlib.Core.List.{List, [], _∷_, _++_, append-nil, append-assoc}
 use mathlib.Core.Option.{Option, none, some}
 use Prim.Native.Nat.{ℕ, suc, _+_, _-_, _*_, _/_, _≤_, _<_}
 use native.Mathlib.Omega.{arith}
-use mir.Facts.{ltb-yes}
 use lib.Dec.{leb}
 use lib.IntN.{ℤ, pos, negℤ}
 use lib.ListN.{length, drop, length-append, drop-of-length-le}
@@ -19,12 +18,12 @@ use Rattle.grammar.specs.Grammar.{Role, other, newName, firstName, secondName, 
 use Rattle.grammar.specs.Place.{ends, live, follow, isNone, choose, after, roleOf}
 use Rattle.grammar.specs.Pieces.{Piece, joinTo, pieces}
 use Rattle.grammar.proofs.Atoms.{Taken, Whole}
-use Rattle.script.specs.Words.{sameWord, eventOf, isDeclared, isNew}
-use Rattle.script.specs.Reading.{Read, going, refused, unless, signed, withNew, found, withEvent, withBound, withName, withClause, withCheck, readPiece, readAll, nothingRead, answerAt}
+use Rattle.script.specs.Words.{sameWord, eventOf, isNew}
+use Rattle.script.specs.Reading.{Read, going, refused, unless, signed, withNew, found, withBound, withName, withClause, withCheck, readPiece, readAll, nothingRead, answerAt}
 use Rattle.script.specs.Said.{Said, nothingSaid, sayBound, sayPiece, sayAll, clausesSaid}
 use Rattle.script.proofs.Answers.{script-of-d1}
 use Rattle.script.proofs.Taking.{renamed, named, bounded, claused}
-use Rattle.script.proofs.Accepting.{lentOf, said-atom, said-clause, said-no-clause, Counted, Good, threes, begins, unless-going, piece-good, first-read, read-whole}
+use Rattle.script.proofs.Accepting.{lentOf, said-atom, said-clause, said-no-clause, Counted, Good, threes, begins, unless-going, event-going, piece-good, first-read, read-whole}
 
 -- a word among the names keeps its event where names are added after them: the first of them that it is stays the first
 pub event-kept : (names more : List (List ℕ)) (w : List ℕ) → eventOf names w < length names → eventOf (names ++ more) w ≡ eventOf names w
@@ -130,39 +129,39 @@ module _ (h : ℕ) (R : Read) (s : List (List ℕ) → Said) (r : Counted h (R .
         go true q = same-says 0 (with assertEnd w s) (unless-going (leb (length (R .triples)) (3 * mostAlternatives)) 3 0 (claused R) Q q .1) (clause-said w)
 
     -- the role says how many alternatives then stand past the last count
-    module _ (e : Bool) (W : ℕ → Bool → Type 0) (from : ℕ) (w : List ℕ) where
-      piece-says : (role : Role) → Taken role h e W → readPiece role from w R ≡ going Q → Taken role h e (λ k x. W k x × Says k Q (with role w s))
-      unfolding readPiece withNew withEvent withName withCheck sayPiece
+    module _ (o e : Bool) (W : ℕ → Bool → Bool → Type 0) (from : ℕ) (w : List ℕ) where
+      piece-says : (role : Role) → Taken role h o e W → readPiece role from w R ≡ going Q → Taken role h o e (λ k u x. W k u x × Says k Q (with role w s))
+      unfolding readPiece withNew withName withCheck sayPiece
       piece-says other t p = let same : R ≡ Q = cc in (t, same-says h (with other w s) same f)
       piece-says newName t p = (t, same-says h (with newName w s) (unless-going (isNew (R .names) w) 20 from (renamed R w) Q p .1) f)
-      piece-says firstName t p = let two = unless-going (isDeclared (R .names) w) 20 from (found false (eventOf (R .names) w) R) Q p in (t, same-says h (with firstName w s) (two .1) (first-said w (ltb-yes (two .0))))
-      piece-says secondName t p = let two = unless-going (isDeclared (R .names) w) 20 from (found true (eventOf (R .names) w) R) Q p in (t, same-says h (with secondName w s) (two .1) (second-said w (ltb-yes (two .0))))
-      piece-says boundDigit t p = (t .0, (t .1, bound-says false (unsignedOf mostBound w) p))
-      piece-says negatedDigit t p = (t .0, (t .1, bound-says true (unsignedOf mostBound w) p))
+      piece-says firstName t p = let three = event-going false from w R Q p in (t, same-says h (with firstName w s) (three .2) (first-said w (three .0)))
+      piece-says secondName t p = let three = event-going true from w R Q p in (t, same-says h (with secondName w s) (three .2) (second-said w (three .0)))
+      piece-says boundDigit t p = (t .0, t .1, (t .2, bound-says false (unsignedOf mostBound w) p))
+      piece-says negatedDigit t p = (t .0, t .1, (t .2, bound-says true (unsignedOf mostBound w) p))
       piece-says declarationEnd t p = (t, same-says h (with declarationEnd w s) (unless-going (leb (length (named R .names)) mostEvents) 1 0 (named R) Q p .1) (λ more. rw append-assoc (f (R .new ∷ more))))
       piece-says assertEnd t p = (t, clause-says w p)
       piece-says checkEnd t p = (t, same-says h (with checkEnd w s) (unless-going (leb 1 (length (R .names))) 1 0 R Q p .1) f)
 
 -- ---- the whole script
 -- Piece by piece: what was said before it is what was read, and so what is said with it; at the end no more names come.
-all-said : (ps : List Piece) (h : ℕ) (e : Bool) (R Q : Read) (s : List (List ℕ) → Said) → Whole h e ps → Good h e R → Says h R s → readAll ps R ≡ going Q → clausesOf (lentOf Q) ≡ sayAll (Q .names) ps (s (Q .names)) .clauses
+all-said : (ps : List Piece) (h : ℕ) (o e : Bool) (R Q : Read) (s : List (List ℕ) → Said) → Whole h o e ps → Good h o e R → Says h R s → readAll ps R ≡ going Q → clausesOf (lentOf Q) ≡ sayAll (Q .names) ps (s (Q .names)) .clauses
 unfolding readAll sayAll clausesOf
-all-said [] h e R Q s t g f p =
+all-said [] h o e R Q s t g f p =
     let same : R ≡ Q = cc in
     subst (λ (S : Read). clausesOf (lentOf S) ≡ s (S .names) .clauses) same (sym (rw append-nil at (f [] .clauses-are)))
-all-said (p ∷ ps) h e R Q s t g f q =
+all-said (p ∷ ps) h o e R Q s t g f q =
     let one = first-read p ps R Q q in
     let S : Read = one .0 in
     let said : List (List ℕ) → Said = with (p .role) (p .word) s in
-    let n = piece-good h e R g (λ k x. Whole k x ps × Says k S said) S (p .role) (p .from) (p .word) (piece-says h R s (g .1) f S e (λ k x. Whole k x ps) (p .from) (p .word) (p .role) t (one .1)) (one .1) in
-    all-said ps (n .0) (n .1) S Q said (n .2 .0) (n .3) (n .2 .1) (one .2)
+    let n = piece-good h o e R g (λ k u x. Whole k u x ps × Says k S said) S (p .role) (p .from) (p .word) (piece-says h R s (g .1) f S o e (λ k u x. Whole k u x ps) (p .from) (p .word) (p .role) t (one .1)) (one .1) in
+    all-said ps (n .0) (n .1) (n .2) S Q said (n .3 .0) (n .4) (n .3 .1) (one .2)
 
 -- A script that is read gives "the alternatives and clauses that the script's asserts say, in their order":
 -- before its first piece nothing is read and nothing said, and each of its pieces is taken.
 pub asserts-said : (text : List ℕ) (at : ℕ) (R : Read) → answerAt text at ≡ going R → clausesOf (lentOf R) ≡ clausesSaid (R .names) (pieces at script (drop at text))
 asserts-said text at R p =
     let w = read-whole text at R p in
-    all-said (pieces at script (drop at text)) 0 false nothingRead R (λ names. nothingSaid) (w .0) begins nothing-said (w .1)
+    all-said (pieces at script (drop at text)) 0 false false nothingRead R (λ names. nothingSaid) (w .0) begins nothing-said (w .1)
 
 -- D1's script says D1's one clause, which antt computes
 d1-said : clausesSaid (bytes "e0" ∷ bytes "e1" ∷ []) (pieces 0 script script-of-d1) ≡ (record { no = 0; x = 0; y = 1; c = negℤ (pos 30) } ∷ []) ∷ []

@@ -2,13 +2,13 @@
 -- A refusal comes from the first piece with a fault, or else from the grammar. Of the pieces only names are refused with 20, each at its first
 -- byte; every other fault has place 0. The grammar's place is the first at which the text does not go on.
 use mathlib.Core.Path.{_≡_, refl, sym, subst}
-use mathlib.Core.Bool.{Bool, true, false, cond}
+use mathlib.Core.Bool.{Bool, true, false, not, cond}
 use mathlib.Core.List.{List, [], _∷_}
 use mathlib.Core.Logic.{_⊎_, inl, inr}
 use mathlib.Core.Option.{Option, none, some}
 use Prim.Native.Nat.{ℕ, _*_, _<_}
 use native.Mathlib.Omega.{arith}
-use lib.Dec.{leb}
+use lib.Dec.{leb, eqb}
 use lib.ListN.{length, drop}
 use Rattle.laws.proofs.Tests.{never}
 use Rattle.meaning.specs.Limits.{mostEvents, mostClauses, mostAlternatives, mostBound}
@@ -42,6 +42,7 @@ NameAt p (q ∷ ps) = (IsName (q .role) × (q .from ≡ p)) ⊎ NameAt p ps
 -- the fault of a piece: 20 at its first byte and a name's, or another number and no place
 pub data Fault (q : Role) (from : ℕ) : ℕ → ℕ → Type 0 where
   of-name : IsName q → Fault q from 20 from
+  of-pair : Fault q from 12 0
   of-bound : Fault q from 6 0
   of-events : Fault q from 1 0
   of-clauses : Fault q from 2 0
@@ -61,20 +62,20 @@ unfolding withBound
 by-bound q from negated none r = of-bound
 by-bound q from negated (some v) r = tt
 
-by-tests : (F : ℕ → ℕ → Type 0) (few ok : Bool) (r : Read) → F 2 0 → F 3 0 → Faulty F (cond few (unless ok 3 0 r) (refused 2 0))
-by-tests F true ok r two three = by-test F ok 3 0 r three
-by-tests F false ok r two three = two
+by-tests : (F : ℕ → ℕ → Type 0) (first ok : Bool) (number place later : ℕ) (r : Read) → F number place → F later 0 → Faulty F (cond first (unless ok later 0 r) (refused number place))
+by-tests F true ok number place later r f g = by-test F ok later 0 r g
+by-tests F false ok number place later r f g = f
 
 piece-fault : (q : Role) (from : ℕ) (w : List ℕ) (r : Read) → Faulty (Fault q from) (readPiece q from w r)
 unfolding readPiece withNew withEvent withName withClause withCheck
 piece-fault other from w r = tt
 piece-fault newName from w r = by-test (Fault newName from) (isNew (r .names) w) 20 from (renamed r w) (of-name tt)
 piece-fault firstName from w r = by-test (Fault firstName from) (isDeclared (r .names) w) 20 from (found false (eventOf (r .names) w) r) (of-name tt)
-piece-fault secondName from w r = by-test (Fault secondName from) (isDeclared (r .names) w) 20 from (found true (eventOf (r .names) w) r) (of-name tt)
+piece-fault secondName from w r = by-tests (Fault secondName from) (isDeclared (r .names) w) (not (eqb (eventOf (r .names) w) (r .x))) 20 from 12 (found true (eventOf (r .names) w) r) (of-name tt) of-pair
 piece-fault boundDigit from w r = by-bound boundDigit from false (unsignedOf mostBound w) r
 piece-fault negatedDigit from w r = by-bound negatedDigit from true (unsignedOf mostBound w) r
 piece-fault declarationEnd from w r = by-test (Fault declarationEnd from) (leb (length (named r .names)) mostEvents) 1 0 (named r) of-events
-piece-fault assertEnd from w r = by-tests (Fault assertEnd from) (leb (length (claused r .counts)) mostClauses) (leb (length (r .triples)) (3 * mostAlternatives)) (claused r) of-clauses of-alternatives
+piece-fault assertEnd from w r = by-tests (Fault assertEnd from) (leb (length (claused r .counts)) mostClauses) (leb (length (r .triples)) (3 * mostAlternatives)) 2 0 3 (claused r) of-clauses of-alternatives
 piece-fault checkEnd from w r = by-test (Fault checkEnd from) (leb 1 (length (r .names))) 1 0 r of-events
 
 -- ---- the first of them
@@ -84,6 +85,7 @@ FaultIn ps number place = (0 < number) × (((number ≡ 20) × NameAt place ps) 
 
 of-one : (q : Piece) (ps : List Piece) {number place : ℕ} → Fault (q .role) (q .from) number place → FaultIn (q ∷ ps) number place
 of-one q ps (of-name n) = (omega arith, inl (refl, inl (n, refl)))
+of-one q ps of-pair = (omega arith, inr (λ e. omega arith, refl))
 of-one q ps of-bound = (omega arith, inr (λ e. omega arith, refl))
 of-one q ps of-events = (omega arith, inr (λ e. omega arith, refl))
 of-one q ps of-clauses = (omega arith, inr (λ e. omega arith, refl))

@@ -1,6 +1,6 @@
 -- What a call of `write_script` answers and leaves, by whether the problem is accepted and the text fits. Assumes nothing.
-use mathlib.Core.Path.{_≡_, refl, ap, _∙_}
-use mathlib.Core.Bool.{true}
+use mathlib.Core.Path.{_≡_, refl, sym, ap, _∙_}
+use mathlib.Core.Bool.{true, cond}
 use mathlib.Core.List.{List, _++_}
 use Prim.Native.Nat.{ℕ, zero, suc, _-_, _≤_, _<_}
 use native.Mathlib.Omega.{arith}
@@ -8,11 +8,12 @@ use borrow.Author.Tests.{le-leb, lt-leb}
 use lib.Dec.{leb}
 use lib.ListN.{length, take, drop, length-append, length-replicate}
 use Rattle.laws.proofs.Lists.{drop-replicate}
-use Rattle.meaning.specs.Screen.{Lent, problemRefusal}
+use Rattle.meaning.specs.Screen.{Lent, firstFailed, problemRefusal}
+use Rattle.meaning.proofs.Refusals.{problem-first, problem-passed}
 use Rattle.dialogue.specs.Written.{written, writtenTo}
 use Rattle.dialogue.proofs.Buffers.{written-fits, put-front}
 use Rattle.script.specs.declared.writing.Written.the-variants.{Text, Refused}
-use Rattle.script.specs.Text.{textOf, longestText, orElse, writeRefusal, answered, zeros, roomAfter, Writes}
+use Rattle.script.specs.Text.{textOf, longestText, writeRefusal, answered, zeros, roomAfter, Writes}
 use Rattle.script.proofs.Lengths.{text-length}
 
 pub length-zeros : (k : ℕ) → length (zeros k) ≡ k
@@ -35,25 +36,33 @@ put-whole l buffer to e p =
     record { to-is = f .0; within = omega (arith, f .0, ap length is, length-append (textOf l) (drop (length (textOf l)) (zeros longestText))); front = f .1 }
 
 module _ (l : Lent) (room : ℕ) where
+  -- a problem's own refusal comes first, and then the room decides
+  pub refused-first : 0 < problemRefusal l → writeRefusal l room ≡ problemRefusal l
+  unfolding writeRefusal
+  refused-first h = problem-first l _ h
+
+  pub room-decides : problemRefusal l ≡ 0 → writeRefusal l room ≡ cond (leb (length (textOf l)) room) 0 21
+  unfolding writeRefusal firstFailed
+  room-decides e = problem-passed l _ e
+
   -- by the number that refuses it, or 0
   by-number : (number : ℕ) → writeRefusal l room ≡ suc number → Writes l room (Refused (suc number)) (zeros room)
   unfolding answered roomAfter
   by-number number e = record { answers = rw e; room-is = rw e }
 
   pub leaves-refused : (number : ℕ) → number ≡ problemRefusal l → (number ≡ 0 → ⊥) → Writes l room (Refused number) (zeros room)
-  unfolding writeRefusal orElse
   leaves-refused zero e n = absurd (n refl)
-  leaves-refused (suc number) e n = by-number number (rw (← e))
+  leaves-refused (suc number) e n = by-number number (refused-first (rw (← e) (omega arith)) ∙ sym e)
 
   pub leaves-too-long : problemRefusal l ≡ 0 → room < length (textOf l) → Writes l room (Refused 21) (zeros room)
-  unfolding writeRefusal orElse
-  leaves-too-long e h = by-number 20 (rw (e, lt-leb (length (textOf l)) room h))
+  leaves-too-long e h = by-number 20 (room-decides e ∙ rw (lt-leb (length (textOf l)) room h))
 
   -- the text stands in the place of the first of the zeros
   pub leaves-text : (buffer : List ℕ) (to : ℕ) → problemRefusal l ≡ 0 → Whole l buffer to → to ≤ room → Writes l room (Text to) (take to buffer ++ drop (length (take to buffer)) (zeros room))
-  unfolding writeRefusal orElse answered roomAfter
+  unfolding answered roomAfter
   leaves-text buffer to e w h =
       let to-is = w .to-is in
       let fits : length (textOf l) ≤ room = omega arith in
       let taken : leb (length (textOf l)) room ≡ true = le-leb (length (textOf l)) room fits in
-      record { answers = rw (e, taken, to-is); room-is = rw (e, taken, w .front, drop-zeros (length (textOf l)) room) }
+      let none : writeRefusal l room ≡ 0 = room-decides e ∙ rw taken in
+      record { answers = rw (none, to-is); room-is = rw (none, w .front, drop-zeros (length (textOf l)) room) }

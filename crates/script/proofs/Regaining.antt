@@ -9,7 +9,7 @@ use lib.IntN.{ℤ, pos, natAbs}
 use lib.ListN.{length, take, drop, length-drop}
 use lib.Seq.{length-take-le}
 use Rattle.meaning.specs.Problem.{Clause}
-use Rattle.meaning.specs.Screen.{Lent, alternatives, parted, clausesOf, stepped, events, isEvent, problemRefusal}
+use Rattle.meaning.specs.Screen.{Lent, alternatives, parted, clausesOf, stepped, events, areEvents, problemRefusal}
 use Rattle.meaning.proofs.Accepted.{Event, first-events, first-count, alternatives-count, passes}
 use Rattle.problem.proofs.Counts.{count-under}
 
@@ -33,7 +33,7 @@ parts-again zero c = refl
 parts-again (suc k) [] = refl
 parts-again (suc k) (a ∷ c) = ap (λ (l : List ℤ). pos (a .x) ∷ pos (a .y) ∷ a .c ∷ l) (parts-again k c)
 
-alternatives-again : (n j : ℕ) (ts : List ℤ) → length ts % 3 ≡ 0 → T (events (isEvent n) ts) → triplesOf (alternatives j ts) ≡ ts
+alternatives-again : (n j : ℕ) (ts : List ℤ) → length ts % 3 ≡ 0 → T (events (areEvents n) ts) → triplesOf (alternatives j ts) ≡ ts
 unfolding alternatives
 alternatives-again n j [] m t = refl
 alternatives-again n j (x ∷ []) m t = absurd (omega arith)

@@ -1,11 +1,11 @@
 -- What is written is read: the text of an accepted problem, line by line, leaves what was read holding the problem itself. Assumes nothing.
-use mathlib.Core.Path.{_≡_, refl, ap, _∙_}
+use mathlib.Core.Path.{_≡_, refl, sym, ap, _∙_}
 use mathlib.Core.Bool.{Bool, true, false}
 use mathlib.Core.List.{List, [], _∷_, _++_, map, append-nil, append-assoc}
 use Prim.Native.Nat.{ℕ, zero, suc, _+_, _*_, _/_, _≤_, _<_}
 use native.Mathlib.Omega.{arith}
 use lib.Dec.{T}
-use borrow.Author.Tests.{le-leb}
+use borrow.Author.Tests.{le-leb, ne-eqb}
 use lib.IntN.{ℤ, pos, negsuc, natAbs}
 use lib.ListN.{length, length-append}
 use Rattle.laws.proofs.Tests.{is-true}
@@ -14,7 +14,7 @@ use Rattle.meaning.specs.Problem.{Alternative, Clause}
 use Rattle.meaning.specs.Screen.{Lent, clausesOf, problemRefusal}
 use Rattle.meaning.proofs.Settling.{Each, In}
 use Rattle.meaning.proofs.Rows.{Short}
-use Rattle.meaning.proofs.Accepted.{Every, Bounded, sizes, accepted}
+use Rattle.meaning.proofs.Accepted.{Every, every-both, Apart, Bounded, sizes, accepted}
 use Rattle.dialogue.specs.Written.{decimal, led}
 use Rattle.dialogue.proofs.Decimals.{reads-back}
 use Rattle.grammar.specs.Grammar.{boundDigit, negatedDigit, firstName, secondName, newName, declarationEnd, assertEnd, checkEnd, bytes, Grammar, script}
@@ -52,6 +52,10 @@ given-on v w a f =
 -- bytes of no effect
 given-plain : {R : Read} {n : ℕ} {ts : List ℤ} {cs : List ℕ} (w : List ℕ) (g : Grammar) → T (plainly w g) → Having n ts cs R → Gives g R w (afterAll w g) n ts cs
 given-plain {R} w g t had = record { end = R; leads = plain-led w g R t; having = had }
+
+-- the events of an alternative: two, below n
+abbrev Named : ℕ → Alternative → Type 0
+Named n a = In n a × Apart a
 
 -- ---- declarations
 module _ (e : ℕ) (below : e < mostEvents) (R : Read) (triples : List ℤ) (counts : List ℕ) (had : Having e triples counts R) where
@@ -123,16 +127,17 @@ module _ (n : ℕ) (few : n ≤ mostEvents) (ts : List ℤ) (cs : List ℕ) wher
         }
 
   -- an atom makes a triple
-  atom-given : (a : Alternative) → In n a → Bounded a → (g h : Grammar) → Atom g h → (R : Read) → Having n ts cs R → Gives g R (atomText a) h n (ts ++ (pos (a .x) ∷ pos (a .y) ∷ a .c ∷ [])) cs
+  atom-given : (a : Alternative) → Named n a → Bounded a → (g h : Grammar) → Atom g h → (R : Read) → Having n ts cs R → Gives g R (atomText a) h n (ts ++ (pos (a .x) ∷ pos (a .y) ∷ a .c ∷ [])) cs
   unfolding atomOf bytes readPiece
   atom-given a i k g h ways R had =
       let x = nameOf (a .x) in
       let y = nameOf (a .y) in
-      let x-found : eventOf (R .names) x ≡ a .x = rw (had .names-are) (event-found n (a .x) (i .0) few) in
-      let y-found : eventOf (R .names) y ≡ a .y = rw (had .names-are) (event-found n (a .y) (i .1) few) in
+      let x-found : eventOf (R .names) x ≡ a .x = rw (had .names-are) (event-found n (a .x) (i .0 .0) few) in
+      let y-found : eventOf (R .names) y ≡ a .y = rw (had .names-are) (event-found n (a .y) (i .0 .1) few) in
       let many : length (R .names) ≡ n = rw (had .names-are) (names-many n) in
       let P : Read = found false (eventOf (R .names) x) R in
       let Q : Read = found true (eventOf (R .names) y) P in
+      let other : (eventOf (R .names) y ≡ eventOf (R .names) x → ⊥) = λ same. i .1 (sym x-found ∙ sym same ∙ y-found) in
       let b = bound-given (a .x) (a .y) h Q (record { names-are = had .names-are; triples-are = had .triples-are; counts-are = had .counts-are }) x-found y-found g ways (a .c) k in
       record {
         end = b .end;
@@ -141,8 +146,8 @@ module _ (n : ℕ) (few : n ≤ mostEvents) (ts : List ℤ) (cs : List ℕ) wher
             (led-by naming (x ∷ y ∷ []) (boundOf (a .c) ++ bytes ")") (ways .names) (
               P,
               name-word firstName (bytes " ") (a .x) (omega arith),
-              (λ from. event-taken R from x false (omega (arith, i .0))),
-              (Q, name-word secondName (bytes ") ") (a .y) (omega arith), (λ from. event-taken P from y true (omega (arith, i .1))), refl),
+              (λ from. event-taken R from x false (omega (arith, i .0)) refl),
+              (Q, name-word secondName (bytes ") ") (a .y) (omega arith), (λ from. event-taken P from y true (omega (arith, i .0)) (ne-eqb _ _ other)), refl),
             )
             (b .leads));
         having = b .having;
@@ -151,7 +156,7 @@ module _ (n : ℕ) (few : n ≤ mostEvents) (ts : List ℤ) (cs : List ℕ) wher
 -- ---- clauses
 module _ (n : ℕ) (few : n ≤ mostEvents) (cs : List ℕ) where
   -- the atoms of an or, from the k-th to the m-th, each led by a space
-  atoms-given : (c : Clause) (k m : ℕ) → m ≡ k + length c → m ≤ mostInClause → Each (In n) c → Each Bounded c → (ts : List ℤ) (R : Read) → Having n ts cs R → Gives (inOr k) R (led (map atomText c)) (inOr m) n (ts ++ triplesOf c) cs
+  atoms-given : (c : Clause) (k m : ℕ) → m ≡ k + length c → m ≤ mostInClause → Each (Named n) c → Each Bounded c → (ts : List ℤ) (R : Read) → Having n ts cs R → Gives (inOr k) R (led (map atomText c)) (inOr m) n (ts ++ triplesOf c) cs
   unfolding led bytes
   atoms-given [] k m e l i b ts R had = let is : m ≡ k = omega arith in rw (is, append-nil ts) (record { end = R; leads = nowhere-led (inOr k) R; having = had })
   atoms-given (a ∷ c) k m e l i b ts R had =
@@ -163,7 +168,7 @@ module _ (n : ℕ) (few : n ≤ mostEvents) (cs : List ℕ) where
       (λ Q have. atoms-given c (suc k) m (omega arith) l (i .1) (b .1) (ts ++ one) Q have)))
 
   -- what an assert holds
-  held-given : (c : Clause) → length c ≤ mostInClause → Each (In n) c → Each Bounded c → (ts : List ℤ) (R : Read) → Having n ts cs R → Gives opened R (heldOf (map atomText c)) closed n (ts ++ triplesOf c) cs
+  held-given : (c : Clause) → length c ≤ mostInClause → Each (Named n) c → Each Bounded c → (ts : List ℤ) (R : Read) → Having n ts cs R → Gives opened R (heldOf (map atomText c)) closed n (ts ++ triplesOf c) cs
   unfolding heldOf closed inOr
   held-given [] l i b ts R had = rw (append-nil ts) (given-plain (bytes "false") opened (lines-lead .empty) had)
   held-given (a ∷ []) l i b ts R had = atom-given n few ts cs a (i .0) (b .0) opened closed (lines-lead .alone) R had
@@ -176,7 +181,7 @@ module _ (n : ℕ) (few : n ≤ mostEvents) (cs : List ℕ) where
       (λ Q have. given-plain (bytes ")") (inOr (suc (suc (length c)))) (ends-so .0) have)))
 
   -- an assert adds the count of all alternatives so far
-  assert-given : (c : Clause) → length c ≤ mostInClause → Each (In n) c → Each Bounded c → (ts : List ℤ) → length cs < mostClauses → length (ts ++ triplesOf c) ≤ 3 * mostAlternatives → (R : Read) → Having n ts cs R → Gives lines R (assertOf c) lines n (ts ++ triplesOf c) (cs ++ (length (ts ++ triplesOf c) / 3 ∷ []))
+  assert-given : (c : Clause) → length c ≤ mostInClause → Each (Named n) c → Each Bounded c → (ts : List ℤ) → length cs < mostClauses → length (ts ++ triplesOf c) ≤ 3 * mostAlternatives → (R : Read) → Having n ts cs R → Gives lines R (assertOf c) lines n (ts ++ triplesOf c) (cs ++ (length (ts ++ triplesOf c) / 3 ∷ []))
   unfolding assertOf opened bytes readPiece
   assert-given c l i b ts less most R had =
       given-on (bytes "(assert ") (heldOf (map atomText c) ++ bytes ")\n") (given-plain (bytes "(assert ") lines (lines-lead .opens) had)
@@ -199,7 +204,7 @@ triples-long (a ∷ c) = omega (arith, triples-long c)
 
 -- the asserts of the clauses, k alternatives standing before them: the first, and then those of the others
 module _ (n : ℕ) (few : n ≤ mostEvents) where
-  first-given : (c : Clause) → length c ≤ mostInClause → Each (In n) c → Each Bounded c → (k : ℕ) → k + length c ≤ mostAlternatives → (ts : List ℤ) → length ts ≡ k * 3 → (ds : List ℕ) → length ds < mostClauses → (R : Read) → Having n ts ds R → Gives lines R (assertOf c) lines n (ts ++ triplesOf c) (ds ++ ((k + length c) ∷ []))
+  first-given : (c : Clause) → length c ≤ mostInClause → Each (Named n) c → Each Bounded c → (k : ℕ) → k + length c ≤ mostAlternatives → (ts : List ℤ) → length ts ≡ k * 3 → (ds : List ℕ) → length ds < mostClauses → (R : Read) → Having n ts ds R → Gives lines R (assertOf c) lines n (ts ++ triplesOf c) (ds ++ ((k + length c) ∷ []))
   first-given c s i b k most ts long ds less R had =
       let longer : length (ts ++ triplesOf c) ≡ (k + length c) * 3 = length-append ts (triplesOf c) ∙ omega (arith, triples-long c) in
       let count : length (ts ++ triplesOf c) / 3 ≡ k + length c = omega arith in
@@ -210,7 +215,7 @@ module _ (n : ℕ) (few : n ≤ mostEvents) where
       rw (← (append-assoc ts (triplesOf c) (triplesIn cs)), ← (append-assoc ds ((k + length c) ∷ []) (countsFrom (k + length c) cs)))
       (given-on (assertOf c) (assertsOf cs) first rest)
 
-  asserts-given : (cs : List Clause) → Every (In n) cs → Every Bounded cs → Short cs → (k : ℕ) → k + sizes cs ≤ mostAlternatives → (ts : List ℤ) → length ts ≡ k * 3 → (ds : List ℕ) → length ds + length cs ≤ mostClauses → (R : Read) → Having n ts ds R → Gives lines R (assertsOf cs) lines n (ts ++ triplesIn cs) (ds ++ countsFrom k cs)
+  asserts-given : (cs : List Clause) → Every (Named n) cs → Every Bounded cs → Short cs → (k : ℕ) → k + sizes cs ≤ mostAlternatives → (ts : List ℤ) → length ts ≡ k * 3 → (ds : List ℕ) → length ds + length cs ≤ mostClauses → (R : Read) → Having n ts ds R → Gives lines R (assertsOf cs) lines n (ts ++ triplesIn cs) (ds ++ countsFrom k cs)
   unfolding assertsOf sizes
   asserts-given [] i b s k most ts long ds less R had = rw (append-nil ts, append-nil ds) (record { end = R; leads = nowhere-led lines R; having = had })
   asserts-given (c ∷ cs) i b s k most ts long ds less R had =
@@ -231,7 +236,7 @@ module _ (l : Lent) (taken : problemRefusal l ≡ 0) where
       given-on (bytes "(set-logic QF_IDL)\n") (declarationsFrom 0 (l .n) ++ (asserts ++ bytes "(check-sat)\n"))
       (given-plain (bytes "(set-logic QF_IDL)\n") script (lines-lead .begins) nothing-had)
       (λ R had. given-on (declarationsFrom 0 (l .n)) (asserts ++ bytes "(check-sat)\n") (rw none-yet at (declarations-given (l .n) 0 (omega (arith, a .most)) R [] [] had))
-      (λ S got. given-on asserts (bytes "(check-sat)\n") (rw (triples-again l taken, counts-again l taken) at (asserts-given (l .n) (a .most) (clausesOf l) (a .within) (a .bounded) (a .short) 0 (omega (arith, a .all)) [] refl [] (omega (arith, a .few)) S got))
+      (λ S got. given-on asserts (bytes "(check-sat)\n") (rw (triples-again l taken, counts-again l taken) at (asserts-given (l .n) (a .most) (clausesOf l) (every-both (In (l .n)) Apart (clausesOf l) (a .within) (a .apart)) (a .bounded) (a .short) 0 (omega (arith, a .all)) [] refl [] (omega (arith, a .few)) S got))
       (λ Q have. ended Q have (a .some))))
     where
       nothing-had : Having 0 [] [] nothingRead

@@ -4,7 +4,7 @@ use mathlib.Core.Path.{_≡_, refl, sym, ap, _∙_}
 use mathlib.Core.List.{List}
 use Prim.Native.Nat.{ℕ, zero, suc, _-_, _≤_}
 use native.Mathlib.Omega.{arith}
-use mathlib.Core.Bool.{Bool, true, false, cond}
+use mathlib.Core.Bool.{Bool, true, false}
 use borrow.Author.Tests.{le-leb, leb-true}
 use lib.Dec.{leb}
 use lib.ListN.{length, take}
@@ -14,9 +14,10 @@ use Rattle.meaning.specs.Screen.{Lent, problemRefusal}
 use Rattle.script.specs.declared.writing.Written.{Written}
 use Rattle.script.specs.declared.writing.Written.the-variants.{Text}
 use Rattle.script.specs.Script.{told, scriptAt, scriptIn, lentIn}
-use Rattle.script.specs.Text.{textOf, longestText, orElse, writeRefusal, answered, zeros, roomAfter, Writes}
+use Rattle.script.specs.Text.{textOf, longestText, writeRefusal, answered, zeros, roomAfter, Writes}
 use Rattle.script.proofs.Fronts.{script-said}
 use Rattle.script.proofs.Lengths.{text-length}
+use Rattle.script.proofs.Leaving.{refused-first, room-decides}
 use Rattle.script.proofs.Rereading.{text-answered}
 
 -- ---- of texts
@@ -50,15 +51,26 @@ pub record Wrote (l : Lent) (room length-is : ℕ) (held : List ℕ) : Type 0 wh
   pub front : take length-is held ≡ textOf l
 
 pub wrote : (l : Lent) (room k : ℕ) (held : List ℕ) → Writes l room (Text k) held → Wrote l room k held
-unfolding writeRefusal orElse
-wrote l room k held w = by-refusal (problemRefusal l) refl (leb (length (textOf l)) room) refl (w .answers) (w .room-is)
+wrote l room k held w = by-refusal (problemRefusal l) refl (leb (length (textOf l)) room) refl
   where
-    by-refusal : (r : ℕ) → problemRefusal l ≡ r → (t : Bool) → leb (length (textOf l)) room ≡ t → Text k ≡ answered l (orElse r (cond t 0 21)) → held ≡ roomAfter l room (orElse r (cond t 0 21)) → Wrote l room k held
-    by-refusal zero e true f p q =
-        let is : k ≡ length (textOf l) = unfold answered in cc in
+    -- no text is answered with a number
+    numbered : (r : ℕ) → Text k ≡ answered l (suc r) → ⊥
+    numbered r p = never (unfold answered in cc)
+
+    not-refused : (r : ℕ) → writeRefusal l room ≡ suc r → ⊥
+    not-refused r e = numbered r (rw e at (w .answers))
+
+    of-text : Text k ≡ answered l 0 → k ≡ length (textOf l)
+    of-text p = unfold answered in cc
+
+    by-refusal : (r : ℕ) → problemRefusal l ≡ r → (t : Bool) → leb (length (textOf l)) room ≡ t → Wrote l room k held
+    by-refusal zero e true f =
+        let none : writeRefusal l room ≡ 0 = room-decides l room e ∙ rw f in
+        let is : k ≡ length (textOf l) = of-text (rw none at (w .answers)) in
+        let q : held ≡ roomAfter l room 0 = rw none at (w .room-is) in
         record { taken = e; long = is; fits = leb-true (length (textOf l)) room f; front = rw (is, q) (unfold roomAfter in take-append-seam (textOf l) (zeros (room - length (textOf l)))) }
-    by-refusal zero e false f p q = absurd (never (unfold answered in cc))
-    by-refusal (suc r) e t f p q = absurd (never (unfold answered in cc))
+    by-refusal zero e false f = absurd (not-refused 20 (room-decides l room e ∙ rw f))
+    by-refusal (suc r) e t f = absurd (not-refused r (refused-first l room (rw e (omega arith)) ∙ e))
 
 -- what a call has written is read as the problem that it was given
 pub written-read : (l : Lent) (room k : ℕ) (held : List ℕ) → Writes l room (Text k) held → (scriptIn (take k held) .number ≡ 0) × (lentIn (scriptIn (take k held)) ≡ l)
@@ -70,5 +82,5 @@ written-again l room k held b t w v = writes-same (rw (written-read l room k hel
 
 -- a room of `longestText` bytes is enough for every accepted problem
 pub room-enough : (l : Lent) (room : ℕ) (a : Written) (held : List ℕ) → problemRefusal l ≡ 0 → longestText ≤ room → Writes l room a held → a ≡ Text (length (textOf l))
-unfolding writeRefusal orElse answered
-room-enough l room a held e h w = w .answers ∙ rw (e, le-leb (length (textOf l)) room (omega (arith, text-length l e)))
+unfolding answered
+room-enough l room a held e h w = w .answers ∙ rw (room-decides l room e, le-leb (length (textOf l)) room (omega (arith, text-length l e)))

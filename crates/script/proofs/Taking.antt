@@ -11,7 +11,7 @@ use borrow.Author.Tests.{lt-leb, le-leb, lt-ltb, le-ltb}
 use Rattle.meaning.specs.Limits.{mostEvents, mostClauses, mostAlternatives}
 use Rattle.script.specs.declared.reading.Notes.{Notes}
 use Rattle.script.specs.Words.{eventOf, isNew}
-use Rattle.script.specs.Reading.{Read, Answer, going, refused, signed, withNew, found, withEvent, withBound, withName, withClause}
+use Rattle.script.specs.Reading.{Read, Answer, going, refused, signed, withNew, found, isAgain, withEvent, withBound, withName, withClause}
 use Rattle.script.specs.Notes.{Kept, Stands, noted, Tells, Ready, Took}
 
 -- ---- what was read, with a name
@@ -30,13 +30,19 @@ module _ (R : Read) where
     unfolding withNew
     new-taken e = rw e
 
-    pub event-refused : (second : Bool) → length (R .names) ≤ eventOf (R .names) w → withEvent second from w R ≡ refused 20 from
-    unfolding withEvent
-    event-refused second h = rw (le-ltb (eventOf (R .names) w) (length (R .names)) h)
+    module _ (second : Bool) where
+      pub event-refused : length (R .names) ≤ eventOf (R .names) w → withEvent second from w R ≡ refused 20 from
+      unfolding withEvent
+      event-refused h = rw (le-ltb (eventOf (R .names) w) (length (R .names)) h)
 
-    pub event-taken : (second : Bool) → eventOf (R .names) w < length (R .names) → withEvent second from w R ≡ going (found second (eventOf (R .names) w) R)
-    unfolding withEvent
-    event-taken second h = rw (lt-ltb (eventOf (R .names) w) (length (R .names)) h)
+      module _ (h : eventOf (R .names) w < length (R .names)) where
+        pub event-again : isAgain second (R .x) (eventOf (R .names) w) ≡ true → withEvent second from w R ≡ refused 12 0
+        unfolding withEvent
+        event-again e = rw (lt-ltb (eventOf (R .names) w) (length (R .names)) h, e)
+
+        pub event-taken : isAgain second (R .x) (eventOf (R .names) w) ≡ false → withEvent second from w R ≡ going (found second (eventOf (R .names) w) R)
+        unfolding withEvent
+        event-taken e = rw (lt-ltb (eventOf (R .names) w) (length (R .names)) h, e)
 
   -- ---- bounds and ends
   pub name-refused : mostEvents ≤ length (R .names) → withName R ≡ refused 1 0

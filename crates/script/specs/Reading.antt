@@ -1,11 +1,11 @@
 -- What a text says: piece by piece, the faults of names, bounds and sizes, and the problem that is read. Definitions only.
 -- "The fault complete first in the text is the answer (a name's at its last byte)": a piece's fault is complete at the piece's last byte,
 -- and all pieces lie before the byte at which no continuation is allowed. So: the first piece with a fault, or else the grammar's answer.
-use mathlib.Core.Bool.{Bool, true, false, cond}
+use mathlib.Core.Bool.{Bool, true, false, not, cond, _&&_}
 use mathlib.Core.List.{List, [], _∷_, _++_}
 use mathlib.Core.Option.{Option, none, some}
 use Prim.Native.Nat.{ℕ, _*_, _/_}
-use lib.Dec.{leb}
+use lib.Dec.{leb, eqb}
 use lib.IntN.{ℤ, pos, negℤ}
 use lib.ListN.{length, drop}
 use Rattle.meaning.specs.Limits.{mostEvents, mostClauses, mostAlternatives, mostBound}
@@ -42,8 +42,14 @@ abbrev pub found : Bool → ℕ → Read → Read
 found false event r = record { names = r .names; new = r .new; x = event; y = r .y; triples = r .triples; counts = r .counts }
 found true event r = record { names = r .names; new = r .new; x = r .x; y = event; triples = r .triples; counts = r .counts }
 
+-- the second is the first again: 12, "at the end of the second name" (A6)
+abbrev pub isAgain : Bool → ℕ → ℕ → Bool
+isAgain second x event = second && eqb event x
+
 unfoldable pub withEvent : Bool → ℕ → List ℕ → Read → Answer
-withEvent second from w r = unless (isDeclared (r .names) w) 20 from (found second (eventOf (r .names) w) r)
+withEvent second from w r =
+    let event = eventOf (r .names) w in
+    cond (isDeclared (r .names) w) (unless (not (isAgain second (r .x) event)) 12 0 (found second event r)) (refused 20 from)
 
 -- a bound's value, by its sign
 abbrev pub signed : Bool → ℕ → ℤ

@@ -2,7 +2,6 @@
 -- "D1 gives exactly these lines, each ended by a line feed: (set-logic QF_IDL), (declare-fun e0 () Int), (declare-fun e1 () Int),
 -- (assert (<= (- e0 e1) (- 30))), (check-sat)."
 use mathlib.Core.Path.{_≡_}
-use mathlib.Core.Bool.{cond}
 use mathlib.Core.List.{List, [], _∷_, _++_, map}
 use Prim.Native.Nat.{ℕ, zero, suc, _+_, _*_, _-_}
 use lib.Dec.{leb}
@@ -10,7 +9,7 @@ use lib.IntN.{ℤ, pos, negsuc}
 use lib.ListN.{length, replicate}
 use Rattle.meaning.specs.Limits.{mostEvents, mostClauses, mostAlternatives}
 use Rattle.meaning.specs.Problem.{Alternative, Clause}
-use Rattle.meaning.specs.Screen.{Lent, clausesOf, problemRefusal}
+use Rattle.meaning.specs.Screen.{Lent, clausesOf, problemTests, firstFailed}
 use Rattle.dialogue.specs.Written.{decimal, led}
 use Rattle.grammar.specs.Grammar.{bytes}
 use Rattle.script.specs.declared.writing.Written.{Written}
@@ -62,13 +61,9 @@ abbrev pub longestText : ℕ
 longestText = 31 + 25 * mostEvents + 15 * mostClauses + 28 * mostAlternatives
 
 -- ---- the call
--- "refused with 1 to 6, then 21 exactly when the text is longer than the room"; 0 where it is not refused
-unfoldable pub orElse : ℕ → ℕ → ℕ
-orElse zero later = later
-orElse (suc number) later = suc number
-
+-- "refused with 1 to 6, then 21 exactly when the text is longer than the room"; 12 as A6 has it
 unfoldable pub writeRefusal : Lent → ℕ → ℕ
-writeRefusal l room = orElse (problemRefusal l) (cond (leb (length (textOf l)) room) 0 21)
+writeRefusal l room = firstFailed (problemTests l ++ (21, leb (length (textOf l)) room) ∷ [])
 
 -- the answer, by that number: the length written, or refused
 unfoldable pub answered : Lent → ℕ → Written

@@ -4,7 +4,7 @@ ghost use Prim.Native.Nat.{_≤_};
 ghost use lib.Seq.{slice};
 ghost use Rattle.meaning.specs.Limits.{mostBound};
 ghost use Rattle.dialogue.specs.Words.{unsignedOf};
-ghost use Rattle.script.specs.Reading.{signed, withNew, withEvent, withBound, withName, withClause, withCheck};
+ghost use Rattle.script.specs.Reading.{signed, withNew, isAgain, withEvent, withBound, withName, withClause, withCheck};
 ghost use Rattle.script.specs.Notes.{noted, Ready, Took, Makes, Reads};
 use super::names::Names;
 use super::names::event_of;
@@ -75,7 +75,17 @@ fn with_event(notes: Notes, second: bool, event: u8) -> Notes
     next
 }
 
-// A name of an atom, the first or the second: 20 at its first byte where it is not declared.
+// Whether a name of an atom is its second, and the event is that of its first.
+fn is_again(second: bool, x: u8, event: u8) -> bool
+    ensures { λ r. ⌜ r ≡ isAgain second x event ⌝ }
+{
+    if second {
+        return event == x;
+    }
+    false
+}
+
+// A name of an atom, the first or the second: 20 at its first byte where it is not declared, 12 where it is the atom's first name again.
 fn atom_name(text: &[u8], from: usize, to: usize, second: bool, notes: Notes) -> Got
     requires { ⌜ Ready (now text) from to notes ⌝ }
     ensures { λ g. ⌜ Took (now (text .entry)) (withEvent second from (slice from to (now (text .entry)))) notes to g ⌝ }
@@ -89,10 +99,18 @@ fn atom_name(text: &[u8], from: usize, to: usize, second: bool, notes: Notes) ->
             notes,
         };
     }
+    let known = event as u8;
+    if is_again(second, notes.x, known) {
+        return Got {
+            number: 12,
+            place: 0,
+            notes,
+        };
+    }
     Got {
         number: 0,
         place: 0,
-        notes: with_event(notes, second, event as u8),
+        notes: with_event(notes, second, known),
     }
 }
 

@@ -1,7 +1,7 @@
 -- What `solve` says is so. Assumes nothing.
 -- `sat` where a timetable keeps the problem read, `unsat` where none does, `unknown` where the search needs more visits than it was allowed; a
 -- refusal is that of the reading, since `plan` refuses nothing that was read.
-use mathlib.Core.Path.{_≡_, refl, sym, subst}
+use mathlib.Core.Path.{_≡_, refl, sym, subst, _∙_}
 use mathlib.Core.Bool.{Bool, true, false, cond}
 use mathlib.Core.List.{List}
 use Prim.Native.Nat.{ℕ, zero, suc, _<_}
@@ -13,8 +13,9 @@ use Rattle.meaning.specs.Limits.{mostEvents, mostClauses, mostAllowance}
 use Rattle.meaning.specs.Plain.{chosen, timesOf}
 use Rattle.meaning.specs.Decision.{sound, latestOf}
 use Rattle.meaning.specs.Search.{Row, stopped}
-use Rattle.meaning.specs.Screen.{Input, clausesOf, problemTests, planTests, problemRefusal, refusal, Screen, cleared, listed, shown, screen, outcome}
-use Rattle.meaning.proofs.Accepted.{all-passed, none-failed, passed-both, passes}
+use Rattle.meaning.specs.Screen.{Input, clausesOf, planTests, problemRefusal, refusal, Screen, cleared, listed, shown, screen, outcome}
+use Rattle.meaning.proofs.Refusals.{none-failed, problem-passed}
+use Rattle.meaning.proofs.Accepted.{passes}
 use Rattle.meaning.proofs.Demands.{found-first, closed-none}
 use Rattle.meaning.proofs.Endings.{Ending, refuses, plans, lists, omits, stops, ending, Kept}
 use Rattle.meaning.proofs.Visits.{Stops, need, enough}
@@ -33,14 +34,14 @@ Meant text TooLong = mostBytes < length text
 
 -- the call passes the tests of 7 and 8 too: the allowance is the largest, and there is a time for each event and a pick for each clause
 not-refused : (text : List ℕ) → scriptIn text .number ≡ 0 → refusal (asked (scriptIn text)) ≡ 0
-unfolding refusal problemRefusal planTests
+unfolding refusal planTests
 not-refused text z =
     let i : Input = asked (scriptIn text) in
     let e : problemRefusal (i .lent) ≡ 0 = script-problem text z in
     let p = passes (i .lent) e in
-    none-failed 1 _
-    (passed-both (problemTests (i .lent)) (planTests i) (all-passed 1 _ (omega arith) e)
-    (le→leb mostAllowance mostAllowance (omega arith), (yes-and (leb (i .lent .n) mostEvents) (leb (length (i .lent .counts)) mostClauses) (le→leb (i .lent .n) mostEvents (p .most)) (le→leb (length (i .lent .counts)) mostClauses (p .few)), tt)))
+    problem-passed (i .lent) (planTests i) e
+    ∙ none-failed (planTests i)
+    (le→leb mostAllowance mostAllowance (omega arith), (yes-and (leb (i .lent .n) mostEvents) (leb (length (i .lent .counts)) mostClauses) (le→leb (i .lent .n) mostEvents (p .most)) (le→leb (length (i .lent .counts)) mostClauses (p .few)), tt))
 
 -- by how the call of `plan` ended
 module _ (text : List ℕ) (taken : refusal (asked (scriptIn text)) ≡ 0) where

@@ -1,4 +1,4 @@
--- `planner::admitted` meets its contract: 1 to 6 are the problem's, then 7 and 8. Assumes nothing.
+-- `planner::admitted` meets its contract: the problem's refusals, then 7 and 8. Assumes nothing.
 use mathlib.Core.Path.{_≡_, sym, _∙_}
 use Prim.Native.Nat.{ℕ}
 use native.Mathlib.Omega.{arith}

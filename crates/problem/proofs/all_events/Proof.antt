@@ -6,14 +6,14 @@ use borrow.Author.Needs.{needs}
 use lib.IntN.{pos}
 use lib.ListN.{length, getD, drop}
 use borrow.Author.Tests.{not-true, not-false}
-use Rattle.meaning.specs.Screen.{events, isEvent}
+use Rattle.meaning.specs.Screen.{events, isEvent, areEvents}
 use Rattle.lent.proofs.Signed.{element}
 use Rattle.problem.proofs.Triples.{events-step, events-end}
 use Rattle.problem.proofs.all_events.Statement.{statement}
 use Rattle.problem.proofs.all_events.Tie as tie
 
 abbrev Inv-loop : tie.InvT-loop
-Inv-loop n triples i₀ i = (i ≤ length triples) × ((i % 3 ≡ 0) × (events (isEvent n) triples ≡ events (isEvent n) (drop i triples)))
+Inv-loop n triples i₀ i = (i ≤ length triples) × ((i % 3 ≡ 0) × (events (areEvents n) triples ≡ events (areEvents n) (drop i triples)))
 
 abbrev μ-loop : tie.MeasureT-loop
 μ-loop n triples i₀ i = length triples - i
@@ -40,7 +40,7 @@ is-event-requires c κs = search needs
 returns : tie.Need-returns Inv-loop μ-loop
 returns c =
     let l = c .before .before .before .before in
-    sym (l .loop .inv .1 .1 ∙ events-step (isEvent (l .before .args .n)) (l .loop .i) (l .before .args .triples .now) (omega arith) ∙ rw (sym (told (c .before)) ∙ not-true _ (c .if1 .taken)) refl)
+    sym (l .loop .inv .1 .1 ∙ events-step (areEvents (l .before .args .n)) (l .loop .i) (l .before .args .triples .now) (omega arith) ∙ rw (sym (told (c .before)) ∙ not-true _ (c .if1 .taken)) refl)
 
 add-is-event : tie.Need-add-is-event Inv-loop μ-loop
 add-is-event c = search needs
@@ -57,7 +57,7 @@ is-event-requires-2 c κs = search needs
 returns-2 : tie.Need-returns-2 Inv-loop μ-loop
 returns-2 c =
     let l = c .before .before .before .before .before .before .before in
-    sym (l .loop .inv .1 .1 ∙ events-step (isEvent (l .before .args .n)) (l .loop .i) (l .before .args .triples .now) (omega arith) ∙ rw (sym (told (c .before .before .before .before)) ∙ not-false _ (c .before .before .before .if1 .left), sym (told-next (c .before)) ∙ not-true _ (c .if2 .taken)) refl)
+    sym (l .loop .inv .1 .1 ∙ events-step (areEvents (l .before .args .n)) (l .loop .i) (l .before .args .triples .now) (omega arith) ∙ rw (sym (told (c .before .before .before .before)) ∙ not-false _ (c .before .before .before .if1 .left), sym (told-next (c .before)) ∙ not-true _ (c .if2 .taken)) refl)
 
 add-i : tie.Need-add-i Inv-loop μ-loop
 add-i c = search needs
@@ -68,7 +68,7 @@ loop-less c = search needs
 loop-again : tie.Need-loop-again Inv-loop μ-loop
 loop-again c =
     let l = c .before .before .before .before .before .before .before in
-    (omega arith, (omega arith, l .loop .inv .1 .1 ∙ events-step (isEvent (l .before .args .n)) (l .loop .i) (l .before .args .triples .now) (omega arith) ∙ rw (sym (told (c .before .before .before .before)) ∙ not-false _ (c .before .before .before .if1 .left), sym (told-next (c .before)) ∙ not-false _ (c .if2 .left)) refl))
+    (omega arith, (omega arith, l .loop .inv .1 .1 ∙ events-step (areEvents (l .before .args .n)) (l .loop .i) (l .before .args .triples .now) (omega arith) ∙ rw (sym (told (c .before .before .before .before)) ∙ not-false _ (c .before .before .before .if1 .left), sym (told-next (c .before)) ∙ not-false _ (c .if2 .left)) refl))
 
 returns-3 : tie.Need-returns-3 Inv-loop μ-loop
 returns-3 c = sym (c .before .loop .inv .1 .1 ∙ events-end _ _ _ (c .loop-test .left))

@@ -1,25 +1,64 @@
 -- `problem::refusal` meets its contract. Assumes nothing.
 use mathlib.Core.Path.{_≡_, refl, sym, _∙_}
-use mathlib.Core.List.{[], _∷_}
-use Prim.Native.Nat.{_*_, _/_}
+use mathlib.Core.List.{List, [], _∷_}
+use Prim.Native.Nat.{ℕ, _*_, _/_}
+use lib.IntN.{ℤ}
 use lib.ListN.{length}
 use borrow.Author.Tests.{lt-leb, le-leb, eq-eqb, ne-eqb, not-true, not-false}
 use Rattle.meaning.specs.Limits.{mostEvents, mostClauses, mostAlternatives}
-use Rattle.meaning.specs.Screen.{stepped, events, bounds, isEvent, isBound, problemTests, firstFailed, problemRefusal}
+use Rattle.meaning.specs.Screen.{stepped, events, bounds, areEvents, areApart, isBound, Test, problemTests, firstFailed, problemRefusal}
 use Rattle.problem.specs.Reads.{given}
 use borrow.Author.Needs.{needs}
 use Rattle.problem.proofs.refusal.Statement.{statement}
 use Rattle.problem.proofs.refusal.Tie as tie
 
--- n, the clauses and the triples are in their limits: what is left are the tests of the counts, the events and the bounds
+-- ---- what is left of the tests, once those before are passed
+abbrev ofBounds : List ℤ → List Test
+ofBounds ts = (6, bounds isBound ts) ∷ []
+
+abbrev ofPairs : List ℤ → List Test
+ofPairs ts = (12, events areApart ts) ∷ ofBounds ts
+
+abbrev ofEvents : ℕ → List ℤ → List Test
+ofEvents n ts = (5, events (areEvents n) ts) ∷ ofPairs ts
+
+abbrev ofCounts : ℕ → List ℤ → List ℕ → List Test
+ofCounts n ts cs = (4, stepped (length ts / 3) 0 cs) ∷ ofEvents n ts
+
+-- n, the clauses and the triples are in their limits
 sized : (c : tie.Else5) →
     let st = c .before .before .before .before .before .before in
     let n = st .args .n in
     let ts = st .args .triples .now in
     let cs = st .args .counts .now in
-    problemRefusal (given n ts cs) ≡ firstFailed 4 (stepped (length ts / 3) 0 cs ∷ events (isEvent n) ts ∷ bounds isBound ts ∷ [])
+    problemRefusal (given n ts cs) ≡ firstFailed (ofCounts n ts cs)
 unfolding problemRefusal problemTests firstFailed
 sized c = rw (le-leb 1 _ (c .before .before .before .before .if1 .left), le-leb _ mostEvents (c .before .before .before .if2 .left), le-leb _ mostClauses (c .before .before .if3 .left), eq-eqb _ 0 (c .before .if4 .left), le-leb _ (3 * mostAlternatives) (c .if5 .left)) refl
+
+-- and the counts are in order
+counted : (c : tie.Else6) →
+    let st = c .before .before .before .before .before .before .before .before in
+    let n = st .args .n in
+    let ts = st .args .triples .now in
+    problemRefusal (given n ts (st .args .counts .now)) ≡ firstFailed (ofEvents n ts)
+unfolding firstFailed
+counted c = sized (c .before .before) ∙ rw (sym (c .before .steps .ensures) ∙ not-false _ (c .if6 .left)) refl
+
+-- and the event numbers lie below n
+named : (c : tie.Else7) →
+    let st = c .before .before .before .before .before .before .before .before .before .before in
+    let ts = st .args .triples .now in
+    problemRefusal (given (st .args .n) ts (st .args .counts .now)) ≡ firstFailed (ofPairs ts)
+unfolding firstFailed
+named c = counted (c .before .before) ∙ rw (sym (c .before .all-events .ensures) ∙ not-false _ (c .if7 .left)) refl
+
+-- and no event is held against itself
+paired : (c : tie.Else8) →
+    let st = c .before .before .before .before .before .before .before .before .before .before .before .before in
+    let ts = st .args .triples .now in
+    problemRefusal (given (st .args .n) ts (st .args .counts .now)) ≡ firstFailed (ofBounds ts)
+unfolding firstFailed
+paired c = named (c .before .before) ∙ rw (sym (c .before .all-apart .ensures) ∙ not-false _ (c .if8 .left)) refl
 
 returns : tie.Need-returns
 unfolding problemRefusal problemTests firstFailed
@@ -56,26 +95,25 @@ all-events-requires c κs = search needs
 
 returns-7 : tie.Need-returns-7
 unfolding firstFailed
-returns-7 c =
-    let d = c .before .before .before in
-    sym (sized (d .before) ∙ rw (sym (d .steps .ensures) ∙ not-false _ (c .before .before .if6 .left), sym (c .before .all-events .ensures) ∙ not-true _ (c .if7 .taken)) refl)
+returns-7 c = sym (counted (c .before .before) ∙ rw (sym (c .before .all-events .ensures) ∙ not-true _ (c .if7 .taken)) refl)
+
+all-apart-requires : tie.Need-all-apart-requires
+all-apart-requires c κs = search needs
+
+returns-8 : tie.Need-returns-8
+unfolding firstFailed
+returns-8 c = sym (named (c .before .before) ∙ rw (sym (c .before .all-apart .ensures) ∙ not-true _ (c .if8 .taken)) refl)
 
 all-bounds-requires : tie.Need-all-bounds-requires
 all-bounds-requires c κs = search needs
 
-returns-8 : tie.Need-returns-8
-unfolding firstFailed
-returns-8 c =
-    let e = c .before .before .before in
-    let d = e .before .before in
-    sym (sized (d .before) ∙ rw (sym (d .steps .ensures) ∙ not-false _ (e .before .if6 .left), sym (e .all-events .ensures) ∙ not-false _ (c .before .before .if7 .left), sym (c .before .all-bounds .ensures) ∙ not-true _ (c .if8 .taken)) refl)
-
 returns-9 : tie.Need-returns-9
 unfolding firstFailed
-returns-9 c =
-    let e = c .before .before .before in
-    let d = e .before .before in
-    sym (sized (d .before) ∙ rw (sym (d .steps .ensures) ∙ not-false _ (e .before .if6 .left), sym (e .all-events .ensures) ∙ not-false _ (c .before .before .if7 .left), sym (c .before .all-bounds .ensures) ∙ not-false _ (c .if8 .left)) refl)
+returns-9 c = sym (paired (c .before .before) ∙ rw (sym (c .before .all-bounds .ensures) ∙ not-true _ (c .if9 .taken)) refl)
+
+returns-10 : tie.Need-returns-10
+unfolding firstFailed
+returns-10 c = sym (paired (c .before .before) ∙ rw (sym (c .before .all-bounds .ensures) ∙ not-false _ (c .if9 .left)) refl)
 
 pub refusal-spec : {M : Type 1} → statement M
 refusal-spec =
@@ -91,6 +129,8 @@ refusal-spec =
     returns-6
     all-events-requires
     returns-7
-    all-bounds-requires
+    all-apart-requires
     returns-8
-    returns-9)
+    all-bounds-requires
+    returns-9
+    returns-10)

@@ -1,5 +1,5 @@
 -- `script::atom_name` meets its contract. Assumes nothing.
-use mathlib.Core.Path.{_≡_, sym, subst}
+use mathlib.Core.Path.{_≡_, sym, _∙_, subst}
 use Prim.Native.Nat.{ℕ, _≤_, _<_}
 use native.Mathlib.Omega.{arith}
 use borrow.Author.Needs.{needs}
@@ -10,7 +10,7 @@ use Rattle.script.specs.declared.reading.Notes.{Notes}
 use Rattle.script.specs.Words.{eventOf}
 use Rattle.script.specs.Reading.{found, withEvent}
 use Rattle.script.specs.Notes.{namesOf, noted, Took}
-use Rattle.script.proofs.Taking.{event-refused, event-taken, kept-on, took-refused, took-going, noted-kept, noted-stands}
+use Rattle.script.proofs.Taking.{event-refused, event-again, event-taken, kept-on, took-refused, took-going, noted-kept, noted-stands}
 use Rattle.script.proofs.reading.atom_name.Statement.{statement}
 use Rattle.script.proofs.reading.atom_name.Tie as tie
 
@@ -26,6 +26,17 @@ part-event-of-end c = search needs
 event-of-requires : tie.Need-event-of-requires
 event-of-requires c κs = c .before .before .before .pre .kept .names-within
 
+-- the name's event among those that the notes stand for, where it is declared
+named : (c : tie.Else1) → let a = c .before .before .before .before .before .before .args in
+    let names = namesOf (a .text .now) (a .notes .names) in
+    let word = slice (a .from) (a .to) (a .text .now) in
+    (c .before .before .event-of .result ≡ eventOf names word) × (eventOf names word < length names)
+named c =
+    let a = c .before .before .before .before .before .before .args in
+    let e = c .before .before .event-of in
+    let is : e .result ≡ eventOf (namesOf (a .text .now) (a .notes .names)) (slice (a .from) (a .to) (a .text .now)) = rw (← (drop-take (a .from) (a .to) (a .text .now))) at (e .ensures .event) in
+    (is, omega (arith, e .ensures .count, c .if1 .left, is))
+
 returns : tie.Need-returns
 returns c =
     let s = c .before .before .before .before .before .before in
@@ -37,27 +48,40 @@ returns c =
     let none : length (namesOf text (r .names)) ≤ eventOf (namesOf text (r .names)) w = omega (arith, c .before .before .event-of .ensures .count) in
     took-refused text (a .from) (a .to) r (s .pre) (withEvent (a .second) (a .from) w) 20 (a .from) (omega arith) (λ R t. event-refused R (a .from) w (a .second) (rw (← (t .names-are)) none))
 
-cast-with-event : tie.Need-cast-with-event
-cast-with-event c = omega (arith, c .before .before .before .before .before .before .pre .kept .names-within .few)
+cast-known : tie.Need-cast-known
+cast-known c = omega (arith, c .before .before .before .before .before .before .pre .kept .names-within .few)
 
-with-event-requires : tie.Need-with-event-requires
-with-event-requires c κs = search needs
+is-again-requires : tie.Need-is-again-requires
+is-again-requires c κs = search needs
 
 returns-2 : tie.Need-returns-2
 returns-2 c =
-    let s = c .before .before .before .before .before .before .before in
+    let s = c .before .before .before .before .before .before .before .before in
     let a = s .args in
     let r = a .notes in
     let text = a .text .now in
     let w = slice (a .from) (a .to) text in
-    let event : ℕ = c .before .before .before .event-of .result in
-    let is : event ≡ eventOf (namesOf text (r .names)) w = rw (← (drop-take (a .from) (a .to) text)) at (c .before .before .before .event-of .ensures .event) in
-    let some : eventOf (namesOf text (r .names)) w < length (namesOf text (r .names)) = omega (arith, c .before .before .before .event-of .ensures .count) in
+    let n = named (c .before .before) in
+    took-refused text (a .from) (a .to) r (s .pre) (withEvent (a .second) (a .from) w) 12 0 (omega arith)
+    (λ R t. event-again R (a .from) w (a .second) (rw (← (t .names-are)) (n .1)) (rw (← (t .names-are), ← (t .x-is), ← (n .0)) (sym (c .before .is-again .ensures) ∙ c .if2 .taken)))
+
+with-event-requires : tie.Need-with-event-requires
+with-event-requires c κs = search needs
+
+returns-3 : tie.Need-returns-3
+returns-3 c =
+    let s = c .before .before .before .before .before .before .before .before .before in
+    let a = s .args in
+    let r = a .notes in
+    let text = a .text .now in
+    let w = slice (a .from) (a .to) text in
+    let n = named (c .before .before .before) in
+    let event : ℕ = c .before .before .before .before .before .event-of .result in
     subst (λ (q : Notes). Took text (withEvent (a .second) (a .from) w) r (a .to) (record { number = 0; place = 0; notes = q })) (sym (c .with-event .ensures))
     (took-going text (a .from) (a .to) r (s .pre) (withEvent (a .second) (a .from) w) (noted (a .second) event r) (λ R. found (a .second) (eventOf (R .names) w) R)
     (noted-kept text event (a .second) (a .to) r (kept-on text (a .from) (a .to) r (s .pre)))
-    (λ R t. event-taken R (a .from) w (a .second) (rw (← (t .names-are)) some))
-    (λ R t. noted-stands text event (a .second) r R (eventOf (R .names) w) (rw (t .names-are) at is) t))
+    (λ R t. event-taken R (a .from) w (a .second) (rw (← (t .names-are)) (n .1)) (rw (← (t .names-are), ← (t .x-is), ← (n .0)) (sym (c .before .before .is-again .ensures) ∙ c .before .if2 .left)))
+    (λ R t. noted-stands text event (a .second) r R (eventOf (R .names) w) (rw (t .names-are) at (n .0)) t))
 
 pub atom-name-spec : {M : Type 1} → statement M
 atom-name-spec =
@@ -68,6 +92,8 @@ atom-name-spec =
     part-event-of-end
     event-of-requires
     returns
-    cast-with-event
+    cast-known
+    is-again-requires
+    returns-2
     with-event-requires
-    returns-2)
+    returns-3)

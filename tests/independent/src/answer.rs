@@ -62,7 +62,7 @@ pub fn answer(request: Option<&Request>) -> Reply {
     }
 }
 
-/// The accepted problem of a plan request, or the lowest refusal among 1 to 8.
+/// The accepted problem of a plan request, or the problem's refusal, and after it 7, then 8.
 pub fn accepted(asked: &Asked) -> Result<Problem, Refusal> {
     let problem = asked.lent.accepted()?;
     if asked.allowance > MOST_ALLOWANCE {

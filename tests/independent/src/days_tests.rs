@@ -89,12 +89,12 @@ fn day_4() {
     says(&format!("reasons 2 {DAY_4} {}", list(&["240", "201", "0 64"])), "no");
 }
 
+/// Refused by A6 in 02.
 #[test]
 fn day_5() {
-    let room = 2 * ROW;
-    let rows = rows(&["200", "0"]);
-    says(&format!("plan 1 1000 1 1 {room} 3 0 0 -1 1 1"), &format!("none 1 1 2 | 1 | 255 | {rows}"));
-    says(&format!("plan 1 1000 1 1 {room} 3 0 0 0 1 1"), &format!("plan 2 0 | 0 | 0 | {}", fill(room)));
+    let refused = format!("refused 12 | 1 | 255 | {}", fill(2 * ROW));
+    says(&format!("plan 1 1000 1 1 {} 3 0 0 -1 1 1", 2 * ROW), &refused);
+    says(&format!("plan 1 1000 1 1 {} 3 0 0 0 1 1", 2 * ROW), &refused);
 }
 
 #[test]
@@ -175,7 +175,7 @@ fn malformed_lines() {
         says(line, "malformed");
     }
     says("times 01 00 0 1 -0", "yes");
-    says("lamps 1 3 -0 0 -00 1 1", &format!("lamps 0 1 1 0 1{}", " 0".repeat(31)));
+    says("lamps 2 3 1 -0 -00 1 1", &format!("lamps 0 1 1 0 1{}", " 0".repeat(31)));
     says(&format!("lamps {}1 0 0", "0".repeat((1 << 20) - 11)), &format!("lamps 0 0 0 64{}", " 0".repeat(32)));
     says(&format!("lamps {}1 0 0", "0".repeat((1 << 20) - 10)), "malformed");
 }

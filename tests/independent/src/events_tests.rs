@@ -20,7 +20,7 @@ fn repeated(count: usize, number: i32) -> String {
 }
 
 /// No lamp is lit, and this is the refusal, or 0.
-fn dark(number: u8) -> String {
+pub fn dark(number: u8) -> String {
     format!("lamps {number} 0 0 64 {}", repeated(32, 0))
 }
 

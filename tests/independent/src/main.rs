@@ -1,6 +1,8 @@
 //! The independent program: makes requests, pipes them to the table's program, and compares every reply.
 //! It is written from papers 01 and 02 alone and shares no line with the planner.
 
+#[cfg(test)]
+mod against_itself_tests;
 mod answer;
 mod compare;
 #[cfg(test)]

@@ -1,4 +1,4 @@
-//! The problem: as it is lent, its refusals 1 to 6, and as events, alternatives and clauses.
+//! The problem: as it is lent, its refusals 1 to 6 and 12, and as events, alternatives and clauses.
 
 use std::ops::Range;
 
@@ -13,6 +13,9 @@ pub const MOST_ALLOWANCE: u32 = 1_000_000;
 
 /// A refusal's number.
 pub type Refusal = u8;
+
+/// The refusal of an event against itself (02, A6).
+pub const AGAINST_ITSELF: Refusal = 12;
 
 /// The problem as it is lent: the list of triples and the clause counts, not yet checked.
 #[derive(Clone, Debug, Default, PartialEq, Eq)]
@@ -79,7 +82,7 @@ impl Problem {
 }
 
 impl Lent {
-    /// The accepted problem, or the lowest refusal among 1 to 6.
+    /// The accepted problem, or the first refusal of those that are looked for in this order.
     pub fn accepted(&self) -> Result<Problem, Refusal> {
         let refusals = [
             (1, self.events_fit()),
@@ -87,6 +90,7 @@ impl Lent {
             (3, self.triples_fit()),
             (4, self.counts_fit()),
             (5, self.named_events_fit()),
+            (AGAINST_ITSELF, self.events_differ()),
             (6, self.bounds_fit()),
         ];
         match refusals.iter().find(|(_, fits)| !fits) {
@@ -118,6 +122,11 @@ impl Lent {
     fn named_events_fit(&self) -> bool {
         let known = |event: &i32| (0..i64::from(self.events)).contains(&i64::from(*event));
         self.triples.chunks(3).all(|triple| triple.iter().take(2).all(known))
+    }
+
+    /// No alternative holds an event against itself.
+    fn events_differ(&self) -> bool {
+        self.triples.chunks_exact(3).all(|triple| triple[0] != triple[1])
     }
 
     fn bounds_fit(&self) -> bool {

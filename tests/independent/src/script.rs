@@ -1,6 +1,8 @@
 //! The published script (02, A1): a text into a lent problem, going down the grammar rule by rule.
 
-use crate::problem::{Lent, Refusal, FARTHEST_BOUND, MOST_ALTERNATIVES, MOST_CLAUSES, MOST_EVENTS, MOST_IN_CLAUSE};
+use crate::problem::{
+    Lent, Refusal, AGAINST_ITSELF, FARTHEST_BOUND, MOST_ALTERNATIVES, MOST_CLAUSES, MOST_EVENTS, MOST_IN_CLAUSE,
+};
 
 pub const LONGEST_NAME: usize = 32;
 
@@ -225,7 +227,8 @@ impl<'a> Reader<'a> {
         self.closing()
     }
 
-    /// An atom after its parenthesis: `<=`, the difference of two events, and the bound.
+    /// An atom after its parenthesis: `<=`, the difference of two events, and the bound; 12 at the second name's end
+    /// where both are one.
     fn comparison(&mut self) -> Result<(), Refused> {
         self.word("<=")?;
         self.opening()?;
@@ -234,6 +237,9 @@ impl<'a> Reader<'a> {
         let x = self.event()?;
         self.parting()?;
         let y = self.event()?;
+        if x == y {
+            return Err(refused(AGAINST_ITSELF));
+        }
         self.closing()?;
         let c = self.bound()?;
         self.closing()?;

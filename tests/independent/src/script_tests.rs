@@ -1,10 +1,10 @@
 //! Scripts of 02, A1, with their problems and refusals, written by hand; and laws over random scripts.
 
 use crate::dialogue::Request;
-use crate::problem::{MOST_CLAUSES, MOST_EVENTS};
+use crate::problem::{AGAINST_ITSELF, MOST_CLAUSES, MOST_EVENTS};
 use crate::random::Random;
 use crate::requests::{peers, scripts};
-use crate::script::{self, Refused, KEPT, NOT_ALLOWED};
+use crate::script::{self, stands_in_name, Refused, KEPT, NOT_ALLOWED};
 use crate::search::{search, Ending};
 use crate::serve::reply;
 
@@ -70,13 +70,13 @@ fn clauses_and_events() {
     says(whole("(declare-const x Int)"), "problem 1 0 0");
     says(whole("(declare-const x Int)(assert false)"), "problem 1 0 1 0");
     says(whole("(assert false)(declare-const x Int)(assert false)"), "problem 1 0 2 0 0");
-    says(whole("(declare-const x Int)(assert (<= (- x x) 0))"), "problem 1 3 0 0 0 1 1");
+    says(begun("(assert (<= (- x y) 0))(check-sat)"), "problem 2 3 0 1 0 1 1");
     says(begun("(assert (<= (- y x) (- 0)))(check-sat)"), "problem 2 3 1 0 0 1 1");
     let two = "(or (<= (- x y) 1) (<= (- y x) (- 2)))";
-    let four = "(or (<= (- x y) 3) (<= (- y x) 4) (<= (- x x) 5) (<= (- y y) 6))";
+    let four = "(or (<= (- x y) 3) (<= (- y x) 4) (<= (- x y) 5) (<= (- y x) 6))";
     says(
         begun(&format!("(assert {two})(assert false)(assert {four})(check-sat)")),
-        "problem 2 18 0 1 1 1 0 -2 0 1 3 1 0 4 0 0 5 1 1 6 3 2 2 6",
+        "problem 2 18 0 1 1 1 0 -2 0 1 3 1 0 4 0 1 5 1 0 6 3 2 2 6",
     );
     let late = "(assert (<= (- x y) 1))(declare-fun z() Int)(assert (<= (- z y) 2))(check-sat)";
     says(begun(late), "problem 3 6 0 1 1 2 1 2 2 1 2");
@@ -84,13 +84,13 @@ fn clauses_and_events() {
 
 #[test]
 fn blanks() {
-    says("(set-logic QF_IDL)(declare-fun x()Int)(assert(<=(- x x)(- 3)))(check-sat)", "problem 1 3 0 0 -3 1 1");
-    says("(set-logic QF_IDL)(declare-const x Int)(assert(<=(- x x)5))(check-sat)", "problem 1 3 0 0 5 1 1");
+    says(begun("(declare-fun z()Int)(assert(<=(- z x)(- 3)))(check-sat)"), "problem 3 3 2 0 -3 1 1");
+    says(begun("(assert(<=(- x y)5))(check-sat)"), "problem 2 3 0 1 5 1 1");
     says(begun("(assert(or(<=(- x y)1)(<=(- x y)2)))(check-sat)"), "problem 2 6 0 1 1 0 1 2 1 2");
-    let wide =
-        "\t( set-logic\rQF_IDL\n) ( declare-fun\tx ( ) Int ) ( assert ( <= ( - x x ) ( - 3 ) ) ) ( check-sat ) \t\r\n";
-    says(wide, "problem 1 3 0 0 -3 1 1");
-    says(wide.replace([' ', '\t'], ";;( \u{e9}\0\u{b}\r"), "problem 1 3 0 0 -3 1 1");
+    let wide = "\t( set-logic\rQF_IDL\n) ( declare-fun\tx ( ) Int ) ( declare-const y\tInt ) \
+        ( assert ( <= ( - x y ) ( - 3 ) ) ) ( check-sat ) \t\r\n";
+    says(wide, "problem 2 3 0 1 -3 1 1");
+    says(wide.replace([' ', '\t'], ";;( \u{e9}\0\u{b}\r"), "problem 2 3 0 1 -3 1 1");
     says(";\r;\n(set-logic;\nQF_IDL;\r)(declare-const;\nx;\nInt)(check-sat)", "problem 1 0 0");
     says(begun("(assert (<= (-;\rx;\ny;\r) (-;\n3;\n)))(check-sat)"), "problem 2 3 0 1 -3 1 1");
     for other in ["\u{b}", "\u{c}", "\0", "\u{a0}", "\u{7f}"] {
@@ -189,7 +189,8 @@ fn names() {
     says(format!("(set-logic QF_IDL)(declare-const {every} Int)(check-sat)"), "problem 1 0 0");
     for near in ["Or", "orr", "<", "=", ">=", "--", "+", "int", "Integer", "true", "and", "__", "!!", "set-logics", "a"]
     {
-        says(whole(&format!("(declare-const {near} Int)(assert (<= (- {near} {near}) 7))")), "problem 1 3 0 0 7 1 1");
+        let used = format!("(assert (or (<= (- x {near}) 7) (<= (- {near} y) 8)))(check-sat)");
+        says(begun(&format!("(declare-const {near} Int){used}")), "problem 3 6 0 2 7 2 1 8 1 2");
     }
     for kept in KEPT {
         refused_between(&begun("(declare-const "), &format!("{kept} Int)(check-sat)"));
@@ -201,10 +202,8 @@ fn names() {
 #[test]
 fn long_names() {
     let (longest, longer) = ("n".repeat(32), "n".repeat(33));
-    says(
-        whole(&format!("(declare-fun {longest} () Int)(assert (<= (- {longest} {longest}) 1))")),
-        "problem 1 3 0 0 1 1 1",
-    );
+    let used = format!("(assert (or (<= (- x {longest}) 1) (<= (- {longest} y) 1)))(check-sat)");
+    says(begun(&format!("(declare-fun {longest} () Int){used}")), "problem 3 6 0 2 1 2 1 1 1 2");
     for rest in ["", " () Int)", "(", ")", "\0", "\u{e9}"] {
         refused_between(&begun("(declare-fun "), &format!("{longer}{rest}"));
     }
@@ -227,6 +226,68 @@ fn undeclared_and_twice_declared() {
     breaks_off(&begun("(declare-const xx"));
     breaks_off(&begun("(assert (<= (- x y"));
     refused_between(&begun("(assert (<= (- x"), "\0");
+}
+
+/// Refused with 12, by A6 in 02, where the front ends, whatever follows it.
+#[track_caller]
+fn refused_from(front: &str) {
+    for rest in ["", ") 1))(check-sat)", ") 999999))", "\0", "(", ";", " \u{e9}", ") (- 00"] {
+        says(begun(&format!("{front}{rest}")), "refused 12 0");
+    }
+}
+
+#[test]
+fn against_itself() {
+    refused_from("(assert (<= (- x x");
+    refused_from("(assert (<= (- y y");
+    refused_from("(assert(<=(-;\rx;\nx");
+    refused_from("(assert (or (<= (- x y) 1) (<= (- y y");
+    refused_from(&format!("(assert (or{} (<= (- y y", " (<= (- x y) 1)".repeat(3)));
+    refused_from("(assert (<= (- x y) 1))(assert (<= (- x x");
+    says(whole("(declare-const x Int)(assert (<= (- x x) 0))"), "refused 12 0");
+    says(whole("(declare-const x Int)(assert (<= (- x x) (- 1)))"), "refused 12 0");
+    breaks_off(&begun("(assert (<= (- x "));
+}
+
+/// A fault of a name, or of a bound before, is complete first.
+#[test]
+fn against_itself_after_other_faults() {
+    for rest in ["z z) 1))", "z z", "z x) 1))"] {
+        refused_between(&begun("(assert (<= (- "), rest);
+    }
+    for rest in ["xx) 1))", "xx", "x1", "x-", "z"] {
+        refused_between(&begun("(assert (<= (- x "), rest);
+    }
+    says(begun("(assert (or (<= (- x y) 100001) (<= (- x x) 1)))"), "refused 6 0");
+    says(begun("(assert (<= (- x y) 100001))(assert (<= (- x x) 1))"), "refused 6 0");
+    refused_between(&begun("(assert (<= (- x y) 0"), "0))(assert (<= (- x x) 1))");
+    refused_between(&begun("(assert (<= (- x"), "\0x) 1))");
+}
+
+/// Names that begin alike are two; cut off where one is the other, the second is judged as it stands.
+#[test]
+fn names_that_begin_alike() {
+    let alike = |commands: &str| begun(&format!("(declare-const x0 Int){commands}"));
+    says(alike("(assert (<= (- x x0) 1))(check-sat)"), "problem 3 3 0 2 1 1 1");
+    says(alike("(assert (<= (- x0 x) 1))(check-sat)"), "problem 3 3 2 0 1 1 1");
+    says(alike("(assert (<= (- x0 x0) 1))(check-sat)"), "refused 12 0");
+    says(alike("(assert (<= (- x x"), "refused 12 0");
+    breaks_off(&alike("(assert (<= (- x x0"));
+    breaks_off(&alike("(assert (<= (- x0 x"));
+}
+
+/// At the end of the second name, so before the end of the assert.
+#[test]
+fn against_itself_and_sizes() {
+    let itself = "(assert (<= (- x x) 1))";
+    let four = format!("(assert (or{}))", " (<= (- x y) 1)".repeat(4));
+    says(begun(&format!("{}{itself}", "(assert false)".repeat(32))), "refused 12 0");
+    says(begun(&format!("{}{itself}", "(assert false)".repeat(33))), "refused 2 0");
+    says(begun(&format!("{}{itself}", four.repeat(16))), "refused 12 0");
+    says(begun(&format!("{}{itself}", four.repeat(17))), "refused 3 0");
+    says(begun(&format!("{}{itself}", declarations(22))), "refused 12 0");
+    says(begun(&format!("{}{itself}", declarations(23))), "refused 1 0");
+    says(begun(&format!("{itself}{}", declarations(23))), "refused 12 0");
 }
 
 /// With the most events of A4 in 02.
@@ -335,15 +396,20 @@ fn texts_could_go_on_up_to_the_place() {
     }
 }
 
-/// A refusal without a place is complete at one byte: from there on it stays, and before it the text breaks off.
+/// A refusal without a place is complete at one byte: from there on it stays, and before it the text breaks off, or is
+/// cut where a second name is still the first.
 #[test]
 fn refusals_stay_once_complete() {
     for text in texts(25).iter().filter(|text| text.len() < 1_000) {
-        if let Err(refused @ Refused { number: 1..=6, .. }) = script::read(text) {
+        if let Err(refused @ Refused { number: 1..=12, .. }) = script::read(text) {
             let cuts: Vec<_> = (0..=text.len()).map(|place| script::read(&text[..place])).collect();
-            let complete = cuts.iter().take_while(|cut| **cut != Err(refused)).count();
-            let breaks_off = |cut: &Result<_, Refused>| cut.as_ref().is_err_and(|cut| cut.number == NOT_ALLOWED);
-            assert!(cuts[..complete].iter().all(breaks_off), "{}", text.escape_ascii());
+            let goes_on = |place: usize| text.get(place).is_some_and(|byte| stands_in_name(*byte));
+            let open = |place: usize| match cuts[place] {
+                Err(Refused { number: NOT_ALLOWED, .. }) => true,
+                Err(Refused { number: AGAINST_ITSELF, .. }) => goes_on(place),
+                _ => false,
+            };
+            let complete = (0..cuts.len()).take_while(|place| open(*place)).count();
             assert!(cuts[complete..].iter().all(|cut| *cut == Err(refused)), "{}", text.escape_ascii());
         }
     }

@@ -27,7 +27,7 @@ pub fn filled(text: &str, room: usize) -> Vec<u8> {
     bytes
 }
 
-/// The text where it fits; the lowest refusal among 1 to 6, and after them 21.
+/// The text where it fits; the problem's refusal, and after it 21.
 fn fitting(lent: &Lent, room: usize) -> Result<String, Refusal> {
     let text = text(&lent.accepted()?);
     if text.len() > room {

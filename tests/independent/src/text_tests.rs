@@ -25,7 +25,7 @@ fn writes(problem: &str, expected: &str) {
 
 /// Asks by the dialogue for a text that is refused.
 #[track_caller]
-fn refuses(room: usize, problem: &str, number: u8) {
+pub fn refuses(room: usize, problem: &str, number: u8) {
     says(&format!("write {room} {problem}"), &format!("refused {number} | {}", Spaced(&vec![0; room])));
 }
 
@@ -59,7 +59,7 @@ fn further_days() {
         ),
     );
     writes("2 6 0 1 -1 1 0 -1 2 1 2", &lines(2, &["(assert (<= (- e0 e1) (- 1)))", "(assert (<= (- e1 e0) (- 1)))"]));
-    writes("1 3 0 0 0 1 1", &lines(1, &["(assert (<= (- e0 e0) 0))"]));
+    writes("2 6 0 1 5 1 0 -5 2 1 2", &lines(2, &["(assert (<= (- e0 e1) 5))", "(assert (<= (- e1 e0) (- 5)))"]));
     writes("3 0 0", &lines(3, &[]));
     writes("1 0 1 0", &lines(1, &["(assert false)"]));
 }
@@ -69,18 +69,18 @@ fn names_and_bounds() {
     writes("24 3 23 10 100000 1 1", &lines(24, &["(assert (<= (- e23 e10) 100000))"]));
     writes("11 3 9 10 -100000 2 0 1", &lines(11, &["(assert false)", "(assert (<= (- e9 e10) (- 100000)))"]));
     writes(
-        "2 12 0 0 0 0 1 -1 1 0 10 1 1 -99 2 4 4",
+        "2 12 0 1 0 0 1 -1 1 0 10 1 0 -99 2 4 4",
         &lines(
             2,
             &[
-                "(assert (or (<= (- e0 e0) 0) (<= (- e0 e1) (- 1)) (<= (- e1 e0) 10) (<= (- e1 e1) (- 99))))",
+                "(assert (or (<= (- e0 e1) 0) (<= (- e0 e1) (- 1)) (<= (- e1 e0) 10) (<= (- e1 e0) (- 99))))",
                 "(assert false)",
             ],
         ),
     );
 }
 
-/// 1 to 6 as for the lamps, whether or not there is room for a text.
+/// 1 to 6 and 12 as for the lamps, whether or not there is room for a text.
 #[test]
 fn refusals() {
     let counts = |count: usize| format!("{count}{}", " 0".repeat(count));
@@ -95,6 +95,7 @@ fn refusals() {
         (4, "2 3 0 1 -30 1 0".to_string()),
         (5, "2 3 0 2 -30 1 1".to_string()),
         (5, "2 3 -1 1 -100001 1 1".to_string()),
+        (12, "2 3 1 1 -30 1 1".to_string()),
         (6, "2 3 0 1 -100001 1 1".to_string()),
         (6, "2 3 0 1 100001 1 1".to_string()),
     ];

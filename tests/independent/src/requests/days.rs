@@ -27,7 +27,7 @@ pub fn lines() -> Vec<Vec<u8>> {
     lines
 }
 
-/// The days D1 to D10, in their order of 01; D3 is D2 with another allowance.
+/// The days D1 to D10, in their order of 01; D3 is D2 with another allowance, and both halves of D5 are refused.
 pub fn days() -> Vec<Lent> {
     vec![
         lent(2, &[vec![[0, 1, -30]]]),
@@ -105,13 +105,14 @@ fn ring(sum: i32) -> Lent {
 }
 
 /// A search that comes to a standing with all events in a chain of opposites, each 100,001 minutes before the next.
-/// The three clauses of one alternative quarrel, but none of them is dead before the last of the others is chosen.
+/// The three clauses of one alternative quarrel, but none of them is dead before the last of the others is chosen. The
+/// alternative that ends each of the others holds in the chain.
 pub fn lowest() -> Lent {
     let opposed: Vec<Triple> = (1..=LAST).map(|event| [event, event - 1, 100_000]).collect();
     let (front, last_two) = opposed.split_at(opposed.len() - 2);
     let mut clauses = vec![vec![[LAST - 2, LAST, -100_000]]];
     for alternatives in front.chunks(MOST_IN_CLAUSE - 1).chain([last_two]) {
-        clauses.push([alternatives, &[[0, 0, 0]]].concat());
+        clauses.push([alternatives, &[[0, LAST, 0]]].concat());
     }
     clauses.push(vec![[LAST, LAST - 1, -1]]);
     clauses.push(vec![[LAST - 1, LAST - 2, 100_000]]);

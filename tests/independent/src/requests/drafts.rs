@@ -1,7 +1,7 @@
 //! Drafts of scripts: the commands between set-logic and check-sat, before they are written; and their faults.
 
 use super::names::{faulty, Name};
-use super::problems::{self, lent, Triple};
+use super::problems::{self, apart, lent, Triple};
 use crate::problem::{Lent, MOST_ALTERNATIVES, MOST_CLAUSES, MOST_EVENTS, MOST_IN_CLAUSE};
 use crate::random::Random;
 
@@ -66,7 +66,7 @@ fn many_events(random: &mut Random) -> Lent {
     let (most, more) = (MOST_EVENTS, MOST_EVENTS + 1);
     let events = random.among(&[0, most, most, more, more, more + 1, 2 * most]);
     let count = random.below(4);
-    lent(events, &clauses(random, events, &vec![usize::from(events > 0); count]))
+    lent(events, &clauses(random, events, &vec![1; count]))
 }
 
 /// Around 32 asserts, of few alternatives; at times so that the 33rd is too many in both ways.
@@ -78,7 +78,7 @@ fn many_clauses(random: &mut Random) -> Lent {
         sizes[..MOST_CLAUSES].fill(2);
         sizes[count - 1] = random.below(MOST_IN_CLAUSE + 1);
     }
-    let events = 1 + random.below(4);
+    let events = 2 + random.below(3);
     lent(events, &clauses(random, events, &sizes))
 }
 
@@ -92,28 +92,29 @@ fn many_alternatives(random: &mut Random) -> Lent {
         sizes.push(size);
         left -= size;
     }
-    let events = problems::some_events(random, 1);
+    let events = problems::some_events(random, 2);
     lent(events, &clauses(random, events, &sizes))
 }
 
-/// Clauses of these sizes.
+/// Clauses of these sizes; empty ones where there are no two events.
 fn clauses(random: &mut Random, events: usize, sizes: &[usize]) -> Vec<Vec<Triple>> {
-    let clause = |size: &usize| (0..*size).map(|_| problems::anywhere(random, events, 20)).collect();
+    let clause = |size: &usize| problems::clause(random, events, *size, |random| apart(random, events, 20));
     sizes.iter().map(clause).collect()
 }
 
-/// Puts one fault into the commands: in a name, in a bound, or in their order.
+/// Puts one fault into the commands: in a name, in a bound, an event against itself, or in their order.
 pub fn spoil(random: &mut Random, commands: &mut Vec<Command>) {
     if commands.is_empty() {
         return;
     }
-    match random.below(13) {
+    match random.below(16) {
         0..=1 => spoil_declared_name(random, commands),
         2..=4 => spoil_used_name(random, commands),
         5..=8 => spoil_numeral(random, commands),
         9 => declare_again(random, commands),
         10 => spoil_or(random, commands),
-        11 => {
+        11..=13 => set_against_itself(random, commands),
+        14 => {
             let (one, other) = (random.below(commands.len()), random.below(commands.len()));
             commands.swap(one, other);
         }
@@ -172,6 +173,23 @@ fn spoil_used_name(random: &mut Random, commands: &mut [Command]) {
     change_atom(random, commands, |random, atom| {
         let name = if random.one_in(2) { &mut atom.x } else { &mut atom.y };
         *name = faulty(random, name);
+    });
+}
+
+/// Sets an atom's event against itself; at times beside a fault in a name or in the bound.
+fn set_against_itself(random: &mut Random, commands: &mut [Command]) {
+    change_atom(random, commands, |random, atom| {
+        atom.y = atom.x.clone();
+        match random.below(8) {
+            0 => atom.x = faulty(random, &atom.x),
+            1 => atom.y = faulty(random, &atom.y),
+            2 => {
+                atom.x = faulty(random, &atom.x);
+                atom.y = atom.x.clone();
+            }
+            3..=4 => atom.numeral = numeral(random),
+            _ => {}
+        }
     });
 }
 

@@ -44,7 +44,7 @@ const FIXED: [&[u8]; 34] = [
     b"Lamps 1 0 0",
     b"lamps 0001 000 00",
     b"lamps 0x1 0 0",
-    b"lamps 1 3 -0 -00 -0 1 1",
+    b"lamps 2 3 1 -0 -00 1 1",
     b"lamps -0 0 0",
     b"times 1 0 0 1 -0",
     b"slide 2 0 0 0 2",

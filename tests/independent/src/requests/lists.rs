@@ -131,7 +131,7 @@ impl Writer<'_> {
     }
 }
 
-/// Two arcs there and back, or one around an event, whose sum is not below 0: the least such sum.
+/// Two arcs there and back whose sum is not below 0: the least such sum.
 pub fn closed_pair_not_below_0(problem: &Problem, numbers: Numbers) -> Option<Bytes> {
     let closed = short_walks(numbers).filter(|walk| weight(problem, walk) >= 0 && returns(problem, walk));
     closed.min_by_key(|walk| weight(problem, walk)).map(|walk| filled(&walk))
@@ -152,7 +152,7 @@ fn short_walks(numbers: Numbers) -> impl Iterator<Item = Vec<u8>> {
 fn returns(problem: &Problem, walk: &[u8]) -> bool {
     let first = problem.arc(usize::from(walk[0]));
     let last = problem.arc(usize::from(walk[walk.len() - 1]));
-    first.y == last.x && (walk.len() == 1 || first.x == last.y)
+    first.y == last.x && first.x == last.y
 }
 
 /// Marks and rows in no order.

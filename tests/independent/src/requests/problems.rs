@@ -68,7 +68,7 @@ fn maybe_with_a_list(random: &mut Random) -> Lent {
     }
 }
 
-/// m clauses of k alternatives over n events, bounds within ±l; no x = y, no clause with equal alternatives.
+/// m clauses of k alternatives over n events, two at least, bounds within ±l; no clause with equal alternatives.
 pub fn as_in_000(random: &mut Random, k: usize, n: usize, m: usize, l: i64) -> Lent {
     let clauses: Vec<Vec<Triple>> = (0..m).map(|_| clause_as_in_000(random, k, n, l)).collect();
     lent(n, &clauses)
@@ -84,19 +84,20 @@ fn clause_as_in_000(random: &mut Random, k: usize, n: usize, l: i64) -> Vec<Trip
     }
 }
 
-/// An alternative between two events apart.
-fn apart(random: &mut Random, n: usize, l: i64) -> Triple {
+/// An alternative between two of n events.
+pub fn apart(random: &mut Random, n: usize, l: i64) -> Triple {
     loop {
-        let triple = anywhere(random, n, l);
+        let triple = [random.below(n) as i32, random.below(n) as i32, random.between(-l, l) as i32];
         if triple[0] != triple[1] {
             return triple;
         }
     }
 }
 
-/// An alternative between any two events, which may be one.
-pub fn anywhere(random: &mut Random, n: usize, l: i64) -> Triple {
-    [random.below(n) as i32, random.below(n) as i32, random.between(-l, l) as i32]
+/// A clause of so many alternatives; where there are no two events it can have none.
+pub fn clause(random: &mut Random, n: usize, size: usize, alternative: impl Fn(&mut Random) -> Triple) -> Vec<Triple> {
+    let size = if n > 1 { size } else { 0 };
+    (0..size).map(|_| alternative(random)).collect()
 }
 
 fn small_as_in_000(random: &mut Random) -> Lent {
@@ -123,16 +124,17 @@ fn hard(random: &mut Random) -> Lent {
     as_in_000(random, 2, n, m, 100)
 }
 
-/// Up to three events and four clauses, empty clauses and x = y among them.
+/// Up to three events, seldom one, and up to four clauses, empty ones among them.
 pub fn tiny(random: &mut Random) -> Lent {
-    let n = 1 + random.below(3);
+    let n = random.among(&[1, 2, 2, 2, 3, 3]);
     let m = random.below(5);
     let empty_too = random.one_in(4);
     let clauses: Vec<Vec<Triple>> = (0..m).map(|_| clause_of_any_size(random, empty_too, n, 3)).collect();
     lent(n, &clauses)
 }
 
-/// Exactly so many events and clauses, of one to four alternatives; seldom an empty clause among them.
+/// Exactly so many events and clauses, of one to four alternatives; seldom an empty clause among them, and no other
+/// where there is one event.
 pub fn of_size(random: &mut Random, n: usize, m: usize) -> Lent {
     let l = random.among(&[5, 20, 100, 100, FARTHEST_BOUND]);
     let most = random.among(&[1, 2, 2, 3, MOST_IN_CLAUSE]);
@@ -140,7 +142,7 @@ pub fn of_size(random: &mut Random, n: usize, m: usize) -> Lent {
     let mut left = MOST_ALTERNATIVES;
     for clauses_left in (0..m).rev() {
         let size = (1 + random.below(most)).min(left - clauses_left);
-        clauses.push((0..size).map(|_| if n > 1 { apart(random, n, l) } else { anywhere(random, n, l) }).collect());
+        clauses.push(clause(random, n, size, |random| apart(random, n, l)));
         left -= size;
     }
     if m > 0 && random.one_in(12) {
@@ -162,8 +164,8 @@ fn tight(random: &mut Random) -> Lent {
 fn clause_of_any_size(random: &mut Random, empty_too: bool, n: usize, l: i64) -> Vec<Triple> {
     let least = usize::from(!empty_too);
     let size = least + random.below(MOST_IN_CLAUSE + 1 - least);
-    let mut clause: Vec<Triple> = (0..size).map(|_| anywhere(random, n, l)).collect();
-    if size > 1 && random.one_in(6) {
+    let mut clause = clause(random, n, size, |random| apart(random, n, l));
+    if clause.len() > 1 && random.one_in(6) {
         clause[1] = clause[0];
     }
     clause
@@ -185,7 +187,7 @@ fn at_the_ends(random: &mut Random) -> Lent {
     }
     if random.one_in(2) {
         let (x, y) = (1 + random.below(n - 1) as i32, 0);
-        clauses.push(vec![[x, y, random.among(&[far, far - 1])], [x, x, random.among(&[-1, 0, far, -far])]]);
+        clauses.push(vec![[x, y, random.among(&[far, far - 1])], [x, x - 1, random.among(&[-1, 0, far, -far])]]);
     }
     let place = random.below(clauses.len());
     clauses.rotate_left(place);
@@ -203,12 +205,12 @@ pub fn with_lamps(random: &mut Random) -> Lent {
 
 /// About half the clauses have one alternative.
 fn with_one_alternative_clauses(random: &mut Random) -> Lent {
-    let n = 1 + random.below(8);
+    let n = 2 + random.below(7);
     let m = random.below(17);
     let l = random.among(&[3, 10, 100]);
     let clause = |_| {
         let size = if random.one_in(2) { 1 } else { random.below(MOST_IN_CLAUSE + 1).max(1) };
-        (0..size).map(|_| anywhere(random, n, l)).collect()
+        (0..size).map(|_| apart(random, n, l)).collect()
     };
     let clauses: Vec<Vec<Triple>> = (0..m).map(clause).collect();
     lent(n, &clauses)
@@ -222,14 +224,14 @@ fn loose(random: &mut Random) -> Lent {
     let mut left = MOST_ALTERNATIVES;
     while clauses.len() < most && left > 0 {
         let size = (1 + random.below(MOST_IN_CLAUSE)).min(left);
-        clauses.push((0..size).map(|_| mostly_loose(random, n)).collect());
+        clauses.push(clause(random, n, size, |random| mostly_loose(random, n)));
         left -= size;
     }
     lent(n, &clauses)
 }
 
 fn mostly_loose(random: &mut Random, n: usize) -> Triple {
-    let mut triple = anywhere(random, n, FARTHEST_BOUND);
+    let mut triple = apart(random, n, FARTHEST_BOUND);
     if random.one_in(3) {
         triple[2] = -triple[2].abs();
     } else {

@@ -1,6 +1,6 @@
 //! Random problems that are accepted: rings of events, often of many.
 
-use super::problems::{lent, some_events, Triple};
+use super::problems::{apart, lent, some_events, Triple};
 use crate::problem::{Lent, FARTHEST_BOUND, MOST_CLAUSES, MOST_EVENTS};
 use crate::random::Random;
 
@@ -41,7 +41,8 @@ fn kept_by(times: &[i64], x: usize, y: usize, spare: i64) -> Triple {
 
 /// An alternative of any two events that these times satisfy with so many minutes to spare.
 fn any_kept_by(random: &mut Random, times: &[i64], spare: i64) -> Triple {
-    kept_by(times, random.below(times.len()), random.below(times.len()), spare)
+    let [x, y, _] = apart(random, times.len(), 0);
+    kept_by(times, x as usize, y as usize, spare)
 }
 
 /// Puts clauses of one alternative between the others.

@@ -1,7 +1,7 @@
 //! Write requests: problems of all shapes and sizes, and room around the length of their texts, to the byte.
 
 use super::maybe_spoil;
-use super::problems::{self, anywhere, lent, some_events, Triple};
+use super::problems::{self, apart, clause, lent, some_events, Triple};
 use crate::dialogue::{Request, MOST_ROOM};
 use crate::problem::{Lent, FARTHEST_BOUND, MOST_ALTERNATIVES, MOST_CLAUSES, MOST_IN_CLAUSE};
 use crate::random::Random;
@@ -63,7 +63,7 @@ fn of_any_clauses(random: &mut Random) -> Lent {
     let mut clauses: Vec<Vec<Triple>> = Vec::new();
     for _ in 0..m {
         let size = (least + random.below(most + 1 - least)).min(left);
-        clauses.push((0..size).map(|_| of_any_bound(random, n)).collect());
+        clauses.push(clause(random, n, size, |random| of_any_bound(random, n)));
         left -= size;
     }
     lent(n, &clauses)
@@ -72,6 +72,6 @@ fn of_any_clauses(random: &mut Random) -> Lent {
 /// An alternative with a bound of any number of digits, often the first or the last of that number.
 fn of_any_bound(random: &mut Random, n: usize) -> Triple {
     let far = random.among(&[0, 1, 9, 10, 99, 100, 999, 1_000, 9_999, 10_000, 99_999, FARTHEST_BOUND]);
-    let [x, y, any] = anywhere(random, n, far);
+    let [x, y, any] = apart(random, n, far);
     [x, y, random.among(&[any, far as i32, -far as i32])]
 }

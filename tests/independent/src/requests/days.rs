@@ -1,6 +1,7 @@
-//! The lines that every run begins with: the days of 01 and their edges, the sliders of 01 and 02, worked scripts
-//! and texts, and the longest lines.
+//! The lines that every run begins with: the days of 01 and their edges, an event against itself, the sliders of 01 and
+//! 02, worked scripts and texts, and the longest lines.
 
+use super::against_itself;
 use super::fixed_scripts;
 use super::lines::long_line;
 use super::lists::rows_of_the_search;
@@ -17,6 +18,7 @@ pub fn lines() -> Vec<Vec<u8>> {
     requests.extend(lists());
     requests.extend(timetables());
     requests.extend(lamps());
+    requests.extend(against_itself::requests());
     requests.extend(sliders());
     requests.extend(fixed_scripts::requests());
     requests.extend(texts());

@@ -1,4 +1,5 @@
-//! The script requests that every run begins with: a worked script, words as names, and the edges of the sizes.
+//! The script requests that every run begins with: a worked script, words as names, the edges of the sizes, and an event
+//! against itself.
 
 use super::names::NEAR;
 use super::scripts::refusal_place;
@@ -14,7 +15,7 @@ const WORKED: &str = "; two gates\r(set-logic QF_IDL)\r\n(declare-fun e0 () Int)
 pub fn requests() -> Vec<Request> {
     let mut texts = changed_everywhere(WORKED.as_bytes());
     texts.extend(words());
-    texts.extend(edges().flat_map(changed_near_refusal));
+    texts.extend(edges().chain(against_itself()).flat_map(changed_near_refusal));
     texts.into_iter().map(|text| Request::Script { text }).collect()
 }
 
@@ -48,26 +49,30 @@ fn changed_near_refusal(text: Vec<u8>) -> Vec<Vec<u8>> {
 fn words() -> impl Iterator<Item = Vec<u8>> {
     let long = (LONGEST_NAME - 1..LONGEST_NAME + 3).map(|length| "n".repeat(length));
     let words = KEPT.into_iter().chain(NEAR.split(' ')).map(String::from).chain(long);
-    words.map(|word| whole(&format!("(declare-const {word} Int)(assert (<= (- {word} {word}) 1))")))
+    words.map(|word| {
+        let atoms = asserted(&[&format!("(<= (- {word} e0) 1)"), &format!("(<= (- e0 {word}) 1)")]);
+        whole(&format!("{}(declare-const {word} Int){atoms}", events(1)))
+    })
 }
+
+const ATOM: &str = "(<= (- e0 e1) 1)";
+const AGAINST_ITSELF: &str = "(<= (- e1 e1) 1)";
 
 /// The largest and the first refused sizes, and commands that come twice.
 fn edges() -> impl Iterator<Item = Vec<u8>> {
-    let events = |count: usize| (0..count).map(|event| format!("(declare-fun e{event}()Int)")).collect::<String>();
-    let (empty, one) = ("(assert false)".to_string(), "(assert (<= (- e0 e0) 1))");
-    let four = format!("(assert (or{}))", " (<= (- e0 e0) 1)".repeat(4));
-    let bound = |bound: &str| events(1) + &one.replace('1', bound);
+    let (empty, one, four) = (asserted(&[]), asserted(&[ATOM]), asserted(&[ATOM; 4]));
+    let bound = |bound: &str| events(2) + &asserted(&[&with_bound(ATOM, bound)]);
     let edges = [
         String::new(),
         events(MOST_EVENTS),
         events(MOST_EVENTS + 1),
         events(1) + &empty.repeat(MOST_CLAUSES),
         events(1) + &empty.repeat(MOST_CLAUSES + 1),
-        events(1) + &four.repeat(16),
-        events(1) + &four.repeat(16) + one,
-        events(1) + &four.repeat(17),
-        events(1) + &empty.repeat(16) + &four.repeat(16) + one,
-        events(1) + &empty.repeat(15) + &four.repeat(16) + one,
+        events(2) + &four.repeat(16),
+        events(2) + &four.repeat(16) + &one,
+        events(2) + &four.repeat(17),
+        events(2) + &empty.repeat(16) + &four.repeat(16) + &one,
+        events(2) + &empty.repeat(15) + &four.repeat(16) + &one,
         bound("100000"),
         bound("100001"),
         bound("(- 100000)"),
@@ -78,6 +83,54 @@ fn edges() -> impl Iterator<Item = Vec<u8>> {
         events(1) + "(check-sat)",
     ];
     edges.into_iter().map(|commands| whole(&commands))
+}
+
+/// An event against itself: in each place of an `or`, where there is no other event, beside a bound too large, beside
+/// the first refused sizes, and of names that are not declared or begin alike.
+fn against_itself() -> impl Iterator<Item = Vec<u8>> {
+    let (empty, one, four) = (asserted(&[]), asserted(&[AGAINST_ITSELF]), asserted(&[ATOM; 4]));
+    let [large, itself_large] = [ATOM, AGAINST_ITSELF].map(|atom| with_bound(atom, "100001"));
+    let of_names = |x: &str, y: &str| events(11) + &asserted(&[&format!("(<= (- {x} {y}) 1)")]);
+    let scripts = [
+        events(2) + &asserted(&[AGAINST_ITSELF, ATOM, ATOM, ATOM]),
+        events(2) + &asserted(&[ATOM, AGAINST_ITSELF, ATOM, ATOM]),
+        events(2) + &asserted(&[ATOM, ATOM, ATOM, AGAINST_ITSELF]),
+        events(1) + &asserted(&["(<= (- e0 e0) 0)"]),
+        events(2) + &asserted(&[&itself_large]),
+        events(2) + &asserted(&[&large, AGAINST_ITSELF]),
+        events(2) + &asserted(&[AGAINST_ITSELF, &large]),
+        events(MOST_EVENTS + 1) + &one,
+        events(2) + &empty.repeat(MOST_CLAUSES) + &one,
+        events(2) + &empty.repeat(MOST_CLAUSES + 1) + &one,
+        events(2) + &four.repeat(16) + &one,
+        events(2) + &four.repeat(17) + &one,
+        of_names("e11", "e11"),
+        of_names("e1", "e11"),
+        of_names("e11", "e1"),
+        of_names("e1", "e10"),
+        of_names("e10", "e1"),
+        of_names("e10", "e10"),
+    ];
+    scripts.into_iter().map(|commands| whole(&commands))
+}
+
+/// So many declarations.
+fn events(count: usize) -> String {
+    (0..count).map(|event| format!("(declare-fun e{event}()Int)")).collect()
+}
+
+/// An assert of these atoms.
+fn asserted(atoms: &[&str]) -> String {
+    match atoms {
+        [] => "(assert false)".to_string(),
+        [atom] => format!("(assert {atom})"),
+        _ => format!("(assert (or{}))", atoms.iter().map(|atom| format!(" {atom}")).collect::<String>()),
+    }
+}
+
+/// One of the atoms above with another bound.
+fn with_bound(atom: &str, bound: &str) -> String {
+    atom.replace(" 1)", &format!(" {bound})"))
 }
 
 /// A whole script with these commands.

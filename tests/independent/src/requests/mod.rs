@@ -1,5 +1,6 @@
 //! Requests: random ones of every kind, made from a seed, after the worked days.
 
+mod against_itself;
 pub mod bench;
 pub mod days;
 mod drafts;
@@ -78,7 +79,7 @@ fn plan(random: &mut Random) -> Asked {
         lent,
     };
     if random.one_in(8) {
-        spoiled::spoil(random, &mut asked, 8);
+        spoiled::spoil(random, &mut asked, &spoiled::OF_A_PLAN);
     }
     asked
 }
@@ -208,7 +209,7 @@ fn any_times(random: &mut Random, events: usize) -> Vec<i32> {
 fn maybe_spoil(random: &mut Random, lent: &mut Lent) {
     if random.one_in(8) {
         let mut asked = Asked { lent: lent.clone(), allowance: 0, timetable: 0, picks: 0, reasons: 0 };
-        spoiled::spoil(random, &mut asked, 6);
+        spoiled::spoil(random, &mut asked, &spoiled::OF_A_PROBLEM);
         *lent = asked.lent;
     }
 }

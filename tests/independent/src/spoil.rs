@@ -2,7 +2,7 @@
 
 use crate::answer::{accepted, answer, Answer, Reply, Screen};
 use crate::dialogue::{request, Request};
-use crate::problem::{Lent, Problem, Refusal, FARTHEST_BOUND};
+use crate::problem::{Lent, Problem, Refusal, AGAINST_ITSELF, FARTHEST_BOUND};
 use crate::reasons::{whole_reading, FILLING, GOES_ON, ROW};
 use crate::requests::closed_pair_not_below_0;
 use crate::script::{Refused, NOT_ALLOWED};
@@ -12,16 +12,18 @@ use crate::slider::Use;
 use crate::text::{self, Page, LONGER_THAN_ROOM};
 use std::ops::RangeInclusive;
 
-/// What a way changes: the line before it is read, the request, the reply, or the texts that are written.
+/// What a way changes: the line before it is read, the request, the problem of the requests with this first word, the
+/// reply, or the texts that are written.
 enum Way {
     Line(fn(&[u8]) -> Vec<u8>),
     Request(fn(&mut Request)),
+    Lent(&'static str, fn(&mut Lent)),
     Reply(fn(&Request, &mut Reply)),
     Screen(fn(&Problem, &mut Screen)),
     Texts(fn(usize, String) -> Vec<String>),
 }
 
-const WAYS: [(&str, Way); 63] = [
+const WAYS: [(&str, Way); 85] = [
     ("visits one more", Way::Screen(|_, screen| change_numbers(screen, |visits, _, _| *visits += 1))),
     (
         "before one less",
@@ -41,7 +43,8 @@ const WAYS: [(&str, Way); 63] = [
     ("a 7 left in the timetable", Way::Screen(|_, screen| change_last(&mut screen.timetable, |time| time == 1, 7))),
     ("a 7 left in the picks", Way::Screen(|_, screen| change_last(&mut screen.picks, |pick| pick == FILLING, 7))),
     ("a 7 left in the reasons", Way::Screen(|_, screen| change_last(&mut screen.reasons, |byte| byte == FILLING, 7))),
-    ("a refusal that clears nothing", Way::Reply(|_, reply| uncleared(reply))),
+    ("a refusal that clears nothing", Way::Reply(|_, reply| uncleared(reply, |_| true))),
+    ("12 that clears nothing", Way::Reply(|_, reply| uncleared(reply, |number| number == AGAINST_ITSELF))),
     ("a cycle of sum 0 or more", Way::Screen(cycle_not_below_0)),
     ("a cycle over an opposite that is no fact", Way::Screen(|_, screen| change_cycles(screen, |row| row[0] ^= 64))),
     ("a broken cycle", Way::Screen(|_, screen| change_cycles(screen, broken))),
@@ -62,6 +65,23 @@ const WAYS: [(&str, Way); 63] = [
     ("times: yes for no", Way::Reply(|request, reply| judged(request, reply, false, |_| true))),
     ("times: no for yes", Way::Reply(|request, reply| judged(request, reply, false, |_| false))),
     ("a refusal's number one more", Way::Reply(|_, reply| next_refusal(reply))),
+    ("12 answered as 5", Way::Reply(|_, reply| change_12(reply, 5))),
+    ("12 answered as 6", Way::Reply(|_, reply| change_12(reply, 6))),
+    ("plan: 12 not looked for", Way::Lent("plan", without_12)),
+    ("plan: 12 before 5", Way::Lent("plan", without_5_beside_12)),
+    ("plan: 6 before 12", Way::Lent("plan", without_12_beside_6)),
+    ("reasons: 12 not looked for", Way::Lent("reasons", without_12)),
+    ("reasons: 12 before 5", Way::Lent("reasons", without_5_beside_12)),
+    ("reasons: 6 before 12", Way::Lent("reasons", without_12_beside_6)),
+    ("times: 12 not looked for", Way::Lent("times", without_12)),
+    ("times: 12 before 5", Way::Lent("times", without_5_beside_12)),
+    ("times: 6 before 12", Way::Lent("times", without_12_beside_6)),
+    ("lamps: 12 not looked for", Way::Lent("lamps", without_12)),
+    ("lamps: 12 before 5", Way::Lent("lamps", without_5_beside_12)),
+    ("lamps: 6 before 12", Way::Lent("lamps", without_12_beside_6)),
+    ("write: 12 not looked for", Way::Lent("write", without_12)),
+    ("write: 12 before 5", Way::Lent("write", without_5_beside_12)),
+    ("write: 6 before 12", Way::Lent("write", without_12_beside_6)),
     ("a lamp flipped", Way::Reply(|_, reply| change_lamps(reply, |lit, _, _, _| *lit ^= 1))),
     ("the number of lamps one more", Way::Reply(|_, reply| change_lamps(reply, |_, total, _, _| *total += 1))),
     ("the first lit lamp 64", Way::Reply(|_, reply| change_lamps(reply, |_, _, first, _| *first = 64))),
@@ -91,6 +111,12 @@ const WAYS: [(&str, Way); 63] = [
     (
         "script: 20 for 1, 2, 3 or 6",
         Way::Reply(|_, reply| change_refused(reply, 1..=6, |refused| refused.number = NOT_ALLOWED)),
+    ),
+    ("script: a place with 12", Way::Reply(|_, reply| change_refused(reply, 12..=12, next_place))),
+    ("script: 6 for 12", Way::Reply(|_, reply| change_refused(reply, 12..=12, |refused| refused.number = 6))),
+    (
+        "script: 20 for 12",
+        Way::Reply(|_, reply| change_refused(reply, 12..=12, |refused| refused.number = NOT_ALLOWED)),
     ),
     (
         "script: a refusal for a problem",
@@ -141,10 +167,11 @@ const WAYS: [(&str, Way); 63] = [
         }),
     ),
     ("write: 6 that clears nothing", Way::Reply(|_, reply| left_as_lent(reply, 6))),
+    ("write: 12 that clears nothing", Way::Reply(|_, reply| left_as_lent(reply, AGAINST_ITSELF))),
     ("write: 21 that clears nothing", Way::Reply(|_, reply| left_as_lent(reply, LONGER_THAN_ROOM))),
     ("write: 21 that leaves the text's front", Way::Reply(front_left)),
     ("write: 21 before 6", Way::Reply(room_before_bounds)),
-    ("write: 21 before 1 to 6 where there is no room", Way::Reply(|_, reply| no_room_first(reply))),
+    ("write: 21 before all others where there is no room", Way::Reply(|_, reply| no_room_first(reply))),
     ("a plus sign taken", Way::Line(|line| line.iter().copied().filter(|byte| *byte != b'+').collect())),
     ("a carriage return taken", Way::Line(|line| line.strip_suffix(b"\r").unwrap_or(line).to_vec())),
     ("malformed answered as refused", Way::Texts(|_, text| vec![text.replace("malformed", "refused 1")])),
@@ -171,8 +198,12 @@ fn spoiled_reply(way: &Way, line: &[u8]) -> String {
     let Some(mut request) = request(line) else {
         return serve::reply(line);
     };
-    if let Way::Request(change) = way {
-        change(&mut request);
+    match way {
+        Way::Request(change) => change(&mut request),
+        Way::Lent(word, change) if line.starts_with(word.as_bytes()) => {
+            lent_of(&mut request).into_iter().for_each(change)
+        }
+        _ => {}
     }
     let mut reply = answer(Some(&request));
     if let (Request::Plan(asked), Reply::Screen(screen)) = (&request, &mut reply) {
@@ -226,11 +257,13 @@ fn change_last<T: Copy>(elements: &mut [T], chosen: fn(T) -> bool, other: T) {
     }
 }
 
-fn uncleared(reply: &mut Reply) {
-    if let Reply::Screen(Screen { answer: Answer::Refused(_), timetable, picks, reasons, .. }) = reply {
-        timetable.fill(7);
-        picks.fill(7);
-        reasons.fill(7);
+fn uncleared(reply: &mut Reply, chosen: fn(Refusal) -> bool) {
+    if let Reply::Screen(Screen { answer: Answer::Refused(number), timetable, picks, reasons, .. }) = reply {
+        if chosen(*number) {
+            timetable.fill(7);
+            picks.fill(7);
+            reasons.fill(7);
+        }
     }
 }
 
@@ -304,6 +337,37 @@ fn lent_of(request: &mut Request) -> Option<&mut Lent> {
     }
 }
 
+fn is_refused_with(lent: &Lent, number: Refusal) -> bool {
+    lent.accepted().err() == Some(number)
+}
+
+/// Takes away 12 where it is given: another event stands second, if there is one.
+fn without_12(lent: &mut Lent) {
+    if is_refused_with(lent, AGAINST_ITSELF) {
+        let events = lent.events as i32;
+        for triple in lent.triples.chunks_mut(3).filter(|triple| triple[0] == triple[1]) {
+            triple[1] = (triple[0] + 1) % events;
+        }
+    }
+}
+
+/// Takes away 5 where it is given beside 12, which is left.
+fn without_5_beside_12(lent: &mut Lent) {
+    let against_itself = lent.triples.chunks_exact(3).any(|triple| triple[0] == triple[1]);
+    if against_itself && is_refused_with(lent, 5) {
+        lent.triples.chunks_mut(3).for_each(|triple| triple[..2].fill(0));
+    }
+}
+
+/// Takes away 12 where it is given beside 6, which is left.
+fn without_12_beside_6(lent: &mut Lent) {
+    let mut apart = lent.clone();
+    without_12(&mut apart);
+    if is_refused_with(&apart, 6) {
+        *lent = apart;
+    }
+}
+
 fn last_clause_forgotten(request: &mut Request) {
     if let Some(lent) = lent_of(request) {
         if lent.accepted().is_ok() {
@@ -342,6 +406,19 @@ fn next_refusal(reply: &mut Reply) {
         Reply::Screen(Screen { answer: Answer::Refused(number), .. }) => *number += 1,
         Reply::Judged(Err(number)) | Reply::Bound(Err(number)) => *number += 1,
         _ => {}
+    }
+}
+
+/// Says another number for 12.
+fn change_12(reply: &mut Reply, other: Refusal) {
+    let number = match reply {
+        Reply::Screen(Screen { answer: Answer::Refused(number), .. }) => number,
+        Reply::Judged(Err(number)) | Reply::Lamps(number, _) => number,
+        Reply::Written(Page { said: Err(number), .. }) => number,
+        _ => return,
+    };
+    if *number == AGAINST_ITSELF {
+        *number = other;
     }
 }
 

@@ -1,7 +1,8 @@
 ; A rule that nothing keeps.
 ; status: unsat
 (set-logic QF_IDL)
+(declare-fun warm () Int)
 (declare-fun scan () Int)
-(assert (<= (- scan scan) 0))
+(assert (<= (- warm scan) 0))
 (assert false)
 (check-sat)

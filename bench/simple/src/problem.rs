@@ -47,7 +47,7 @@ impl Problem {
         (k..self.clauses()).map(|clause| self.clause(clause).len() as u64).product()
     }
 
-    /// The lowest refusal that applies, among 1 to 8.
+    /// The first refusal that applies, in the order in which they are looked for.
     pub fn refusal(&self, allowance: u32, timetable: usize, picks: usize) -> Option<u8> {
         let triples = || self.triples.chunks(3);
         let event_known = |event: &i32| *event >= 0 && (*event as u32) < self.events;
@@ -57,6 +57,7 @@ impl Problem {
             _ if self.triples.len() % 3 != 0 || self.triples.len() > 192 => Some(3),
             _ if !self.counts_fit() => Some(4),
             _ if !triples().all(|triple| triple[..2].iter().all(event_known)) => Some(5),
+            _ if triples().any(|triple| triple[0] == triple[1]) => Some(12),
             _ if !triples().all(|triple| (-100_000..=100_000).contains(&triple[2])) => Some(6),
             _ if allowance > 1_000_000 => Some(7),
             _ if timetable < self.events as usize || picks < self.counts.len() => Some(8),

@@ -104,7 +104,7 @@ planTests i =
     ∷ (8, leb (i .lent .n) (i .times) && leb (length (i .lent .counts)) (i .picks))
     ∷ []
 
--- a refusal's number, wherever one is given: the one beside the first test that fails, or 0 where none does
+-- how a refusal's number is found, in every operation that is lent a problem: it is the one beside the first test that fails, or 0 where none does
 unfoldable pub firstFailed : List Test → ℕ
 firstFailed [] = 0
 firstFailed (t ∷ more) = let r = firstFailed more in cond (t .1) r (t .0)

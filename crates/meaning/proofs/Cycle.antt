@@ -1,7 +1,6 @@
--- A cycle row over facts leaves them no timetable. Assumes nothing.
+-- A closed walk below 0 over facts, and so a cycle row, leaves them no timetable. Assumes nothing.
 use mathlib.Core.Path.{_≡_, sym, ap, ap₂, _∙_, subst}
-use mathlib.Core.Bool.{Bool, true, false, cond, _&&_}
-use mathlib.Core.Option.{some}
+use mathlib.Core.Bool.{Bool, _&&_}
 use mathlib.Core.List.{List, [], _∷_}
 use Prim.Native.Nat.{ℕ, suc, _+_, _-_, _<_, _≤_}
 use native.Mathlib.Omega.{arith}
@@ -12,6 +11,9 @@ use mir.Facts.{and-yes}
 use Rattle.laws.proofs.Differences.{above-is, below-is, Minus, below, above, minus}
 use Rattle.meaning.specs.Problem.{Alternative, Timetable, satisfied, Satisfies}
 use Rattle.meaning.specs.Reasons.{named, given, walk, loops, numbers, filled, cycleOver}
+use Rattle.meaning.proofs.Deciding.{satisfies-each}
+use Rattle.meaning.proofs.Ways.{given-some}
+use Rattle.meaning.proofs.Numbered.{named-each}
 
 -- a ≤ b exactly where b is a and a natural number
 more-than : (a : ℤ) (k : ℕ) → T (leZ a (a +ℤ pos k))
@@ -45,13 +47,9 @@ add-le a b c d s t =
 
 -- a named fact is satisfied
 named-satisfied : (t : Timetable) (fs : List Alternative) (b : ℕ) (f : Alternative → Bool) → Satisfies t fs → T (given (named fs b) f) → (a : Alternative) × T (satisfied t a) × T (f a)
-unfolding named given
-named-satisfied t [] b f h g = absurd g
-named-satisfied t (a ∷ more) b f h g = go (eqb b (a .no)) g (λ k. named-satisfied t more b f (h .1) k)
-  where
-    go : (x : Bool) → T (given (cond x (some a) (named more b)) f) → (T (given (named more b) f) → (e : Alternative) × T (satisfied t e) × T (f e)) → (e : Alternative) × T (satisfied t e) × T (f e)
-    go true g k = (a, h .0, g)
-    go false g k = k g
+named-satisfied t fs b f h g =
+    let (a, e, s) = given-some fs b f g in
+    (a, named-each (λ a. T (satisfied t a)) fs b a (satisfies-each t fs h) e .0, s)
 
 chain : (h s x : ℤ) → (h -ℤ s) +ℤ (x -ℤ h) ≡ x -ℤ s
 chain h s x = +ℤ-comm (h -ℤ s) (x -ℤ h) ∙ sym (+ℤ-assoc (x -ℤ h) h (negℤ s)) ∙ ap (λ m. m +ℤ negℤ s) (-ℤ-+ℤ-cancel x h)
@@ -83,13 +81,15 @@ walk-none t fs h start here z (b ∷ bs) s g =
         on a (arc-on t start here z a s o (eqb→eq (a .y) here (and-yes (eqb (a .y) here) (walk fs start (a .x) (z +ℤ a .c) bs) k .0)))
         (and-yes (eqb (a .y) here) (walk fs start (a .x) (z +ℤ a .c) bs) k .1)
 
+-- a closed walk below 0 over facts leaves them no timetable
+pub loops-none : (t : Timetable) (fs : List Alternative) (l : List ℕ) → T (loops fs l) → Satisfies t fs → ⊥
+unfolding loops
+loops-none t fs [] g h = g
+loops-none t fs (b ∷ bs) g h = first (named-satisfied t fs b (λ a. walk fs (a .y) (a .x) (a .c) bs) h g)
+  where
+    first : ((a : Alternative) × T (satisfied t a) × T (walk fs (a .y) (a .x) (a .c) bs)) → ⊥
+    first (a, o, w) = walk-none t fs h (a .y) (a .x) (a .c) bs (unfold satisfied in o) w
+
 pub cycle-none : (t : Timetable) (fs : List Alternative) (row : List ℕ) → T (cycleOver fs row) → Satisfies t fs → ⊥
 unfolding cycleOver
-cycle-none t fs row g h = go (numbers row) (and-yes (filled row) (loops fs (numbers row)) g .1)
-  where
-    go : (bs : List ℕ) → T (loops fs bs) → ⊥
-    go [] k = unfold loops in k
-    go (b ∷ bs) k = unfold loops in first (named-satisfied t fs b (λ a. walk fs (a .y) (a .x) (a .c) bs) h k)
-      where
-        first : ((a : Alternative) × T (satisfied t a) × T (walk fs (a .y) (a .x) (a .c) bs)) → ⊥
-        first (a, o, w) = walk-none t fs h (a .y) (a .x) (a .c) bs (unfold satisfied in o) w
+cycle-none t fs row g h = loops-none t fs (numbers row) (and-yes (filled row) (loops fs (numbers row)) g .1) h

@@ -2,12 +2,11 @@
 -- Assumes nothing beyond what it is given: a decision of soundness.
 use mathlib.Core.Path.{_≡_, refl, sym, ap, _∙_, subst}
 use mathlib.Core.Bool.{Bool, true, false, cond}
-use mathlib.Core.Logic.{_⊎_, inl, inr, _↔_, ⊎-elim, by-cases}
+use mathlib.Core.Logic.{_⊎_, inl, inr, _↔_, ⊎-elim}
 use mathlib.Core.Option.{Option, some, none, Option·map}
 use mathlib.Core.List.{List, [], _∷_}
 use Prim.Native.Nat.{ℕ, zero, suc, _+_, _<_, _≤_, zero-le, suc-le-suc}
 use native.Mathlib.Nat.{le-of-suc-le-suc, not-suc-le-zero, suc-mul, zero-mul}
-use native.Mathlib.Decide.{decLt}
 use native.Mathlib.Omega.{arith}
 use lib.Dec.{T}
 use lib.ListN.{length, getD}
@@ -17,6 +16,7 @@ use Rattle.meaning.specs.Problem.{Alternative, opposite, Clause, Timetab
 use Rattle.meaning.specs.Plain.{Selection, nowhere, chosen, Holds, _≺_, product, rank}
 use Rattle.meaning.specs.Search.{Standing, Row, mark, Outcome, found, closed, stopped, enter, look, later, andThen, branch, dead, firstDead, search, facts, Decides}
 use Rattle.meaning.proofs.Opposite.{split}
+use Rattle.meaning.proofs.Dictionary.{in-order}
 
 -- no timetable of the facts satisfies a selection of cs
 abbrev pub Closed : List Clause → List Alternative → Type 0
@@ -273,24 +273,15 @@ module _ (sound : List Alternative → Bool) (sure : Decides sound) where
       let k : Halted cs [] b p = subst (Claim cs []) e (search-claim cs 0 [] v) in
       k .ruled q s l (h .0) tt (h .1)
 
-trichotomy : (i j : ℕ) → (i < j) ⊎ ((i ≡ j) ⊎ (j < i))
-trichotomy i j = by-cases (decLt i j) inl (λ n. inr (by-cases (decLt j i) inr (λ m. inl (omega arith))))
+selection-length : (cs : List Clause) (p : List ℕ) → Selection cs p → length p ≡ length cs
+selection-length [] [] s = refl
+selection-length [] (i ∷ p) s = absurd s
+selection-length (c ∷ cs) [] s = absurd s
+selection-length (c ∷ cs) (i ∷ p) s = ap suc (selection-length cs p (s .1))
 
 -- of two selections one is before the other, unless they are the same
 pub order : (cs : List Clause) (p q : List ℕ) → Selection cs p → Selection cs q → (p ≺ q) ⊎ ((p ≡ q) ⊎ (q ≺ p))
-order [] [] [] s r = inr (inl refl)
-order [] [] (j ∷ q) s r = absurd r
-order [] (i ∷ p) q s r = absurd s
-order (c ∷ cs) [] q s r = absurd s
-order (c ∷ cs) (i ∷ p) [] s r = absurd r
-order (c ∷ cs) (i ∷ p) (j ∷ q) s r = heads (trichotomy i j) (order cs p q (s .1) (r .1))
-  where
-    heads : (i < j) ⊎ ((i ≡ j) ⊎ (j < i)) → (p ≺ q) ⊎ ((p ≡ q) ⊎ (q ≺ p)) → ((i ∷ p) ≺ (j ∷ q)) ⊎ (((i ∷ p) ≡ (j ∷ q)) ⊎ ((j ∷ q) ≺ (i ∷ p)))
-    heads (inl l) o = inl (inl l)
-    heads (inr (inr l)) o = inr (inr (inl l))
-    heads (inr (inl e)) (inl l) = inl (inr (e, l))
-    heads (inr (inl e)) (inr (inl d)) = inr (inl (cc))
-    heads (inr (inl e)) (inr (inr l)) = inr (inr (inr (sym e, l)))
+order cs p q s r = in-order p q (selection-length cs p s ∙ sym (selection-length cs q r))
 
 -- there is one first selection
 pub first-one : (cs : List Clause) (p q : List ℕ) → First cs p → First cs q → p ≡ q

@@ -1,4 +1,5 @@
 pub mod Opposite
+pub mod Dictionary
 pub mod Settling
 pub mod Deciding
 pub mod First
@@ -7,6 +8,14 @@ pub mod Plain
 pub mod Carry
 pub mod Step
 pub mod Cycle
+pub mod Ways
+pub mod Numbered
+pub mod Conflict
+pub mod Pigeon
+pub mod Shapes
+pub mod Wording
+pub mod Finding
+pub mod Reasoning
 pub mod Rows
 pub mod Reading
 pub mod Listing

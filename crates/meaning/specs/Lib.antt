@@ -4,6 +4,7 @@ pub mod Plain
 pub mod Decision
 pub mod Search
 pub mod Reasons
+pub mod Shortest
 pub mod Screen
 pub mod Verdicts
 pub mod Lamps

@@ -13,10 +13,12 @@ use Rattle.meaning.specs.Plain.{product}
 use Rattle.meaning.specs.Decision.{ask, raise, round, rounds, least, settled, soundBy, latestOf, reach, sound}
 use Rattle.meaning.specs.Search.{enter, look, later, andThen, branch, dead, firstDead, search}
 use Rattle.meaning.specs.Reasons.{named, given, walk, loops, numbers, blank, filled, cycleOver, same, markRow, kind, cycleRows, front, reading, andRead, eachRead, read, cut, rowsOf, allBlank, ends, isReading}
+use Rattle.meaning.specs.Shortest.{orElse, firstBelow, top, begunBy, ledBack, closedBy, orNone, shortest}
+use Rattle.meaning.specs.Listing.{padded, rowOf, listing, rowsIn}
 use Rattle.meaning.specs.Screen.{Lent, alternatives, parted, clausesOf, stepped, events, bounds, problemTests, planTests, firstFailed, problemRefusal, refusal, cleared, listed, shown, decided, screen}
 use Rattle.meaning.specs.Verdicts.{verdict, reasonsVerdict}
 use Rattle.meaning.specs.Lamps.{forced, lampsOf, joined, bits, ones, firstLit, lit, panelOf, dark, shownPanel, panel}
-use Rattle.meaning.proofs.Days.{Day, alt, lent, day, usual, minus, seen, rowSeen, ones-of, blanks-of}
+use Rattle.meaning.proofs.Days.{Day, alt, lent, day, usual, minus, seen, ones-of, blanks-of}
 
 -- so many numbers, from the first on
 abbrev numbersFrom : ℕ → ℕ → List ℕ
@@ -48,15 +50,15 @@ abbrev chain-day : Day
 chain-day = day (usual chain) (Plan mostEvents 0) (map (λ (e : ℕ). minus (e * mostBound)) downward ++ pos 1 ∷ pos 1 ∷ []) (replicate lastEvent 0 ++ blankByte ∷ []) [] (2 ^ lastEvent - 1) lastEvent
 
 pub chain-holds : seen (chain-day .input) ≡ chain-day .expected
-unfolding seen rowSeen screen decided shown listed cleared refusal problemRefusal problemTests planTests firstFailed bounds events stepped clausesOf parted alternatives panel shownPanel panelOf dark lit lampsOf joined bits ones firstLit forced search branch andThen later look enter firstDead dead sound reach soundBy settled latestOf least rounds round raise ask opposite product
+unfolding seen screen decided shown listed cleared rowsIn listing rowOf padded markRow shortest orNone closedBy ledBack begunBy top firstBelow orElse named refusal problemRefusal problemTests planTests firstFailed bounds events stepped clausesOf parted alternatives panel shownPanel panelOf dark lit lampsOf joined bits ones firstLit forced search branch andThen later look enter firstDead dead sound reach soundBy settled latestOf least rounds round raise ask opposite product
 chain-holds = refl
 
--- each clause but the last goes on, the last is dead, and its cycle may name every arc
+-- each clause but the last goes on, the last is dead, and its cycle names every arc, from arc 0 on: that ends at event 0, where the last starts
 abbrev ring-day : Day
-ring-day = day (usual ring) (None mostEvents 1 (mostEvents + 1)) (ones-of mostEvents) (blanks-of mostEvents) (replicate lastEvent (onwardMark ∷ []) ++ ((deadMark + lastEvent) ∷ []) ∷ downward ∷ []) 0 0
+ring-day = day (usual ring) (None mostEvents 1 (mostEvents + 1)) (ones-of mostEvents) (blanks-of mostEvents) (replicate lastEvent (onwardMark ∷ []) ++ ((deadMark + lastEvent) ∷ []) ∷ (0 ∷ map (λ (e : ℕ). lastEvent - e) (numbersFrom 0 lastEvent)) ∷ []) 0 0
 
 pub ring-holds : seen (ring-day .input) ≡ ring-day .expected
-unfolding seen rowSeen screen decided shown listed cleared refusal problemRefusal problemTests planTests firstFailed bounds events stepped clausesOf parted alternatives panel shownPanel panelOf dark lit lampsOf joined bits ones firstLit forced search branch andThen later look enter firstDead dead sound reach soundBy settled latestOf least rounds round raise ask opposite product
+unfolding seen screen decided shown listed cleared rowsIn listing rowOf padded markRow shortest orNone closedBy ledBack begunBy top firstBelow orElse named refusal problemRefusal problemTests planTests firstFailed bounds events stepped clausesOf parted alternatives panel shownPanel panelOf dark lit lampsOf joined bits ones firstLit forced search branch andThen later look enter firstDead dead sound reach soundBy settled latestOf least rounds round raise ask opposite product
 ring-holds = refl
 
 -- the rows of the ring, the last of them as given

@@ -1,4 +1,4 @@
-// Prints the worked days of 01, as A4 and A6 amend them, one to a line: the answer, and the lent timetable, picks and reasons as they are left. All of
+// Prints the worked days of 01, as A4, A6 and A7 amend them, one to a line: the answer, and the lent timetable, picks and reasons as they are left. All of
 // that is filled with 7s before each call, so that what was not settled would show.
 ghost use mathlib.Core.Path.{_≡_};
 ghost use Prim.Native.Nat.{_*_, _≤_};
@@ -12,7 +12,7 @@ const TIMES: usize = 6;
 
 const PICKS: usize = 4;
 
-const ROOM: usize = 4 * ROW;
+const ROOM: usize = 7 * ROW;
 
 const TIGHT: usize = 3 * ROW - 1;
 
@@ -168,6 +168,21 @@ fn last_days() {
     );
 }
 
+// A7: a heavier arc is named for its smaller number, and two arcs where three sum further below 0.
+fn days_of_reasons() {
+    let parallel = [1, 0, 8, 0, 1, -4, 1, 0, 3, 0, 1, -9];
+    let ends = [2u32, 3, 4];
+    show(
+        b"Two arcs from one event to another",
+        2,
+        &parallel[..],
+        &ends[..],
+    );
+    let fewer = [2, 1, -50, 1, 0, -1, 0, 2, -49, 1, 0, -1, 0, 1, 0];
+    let more = [1u32, 3, 4, 5];
+    show(b"Two arcs or three", 3, &fewer[..], &more[..]);
+}
+
 // Each event at most c minutes after the next, in a clause of its own, as many as there are clauses.
 fn put_ahead(triples: &mut [i32], counts: &mut [u32], c: i32)
     requires { ⌜ (length (now triples) ≡ 3 * length (now counts)) × (length (now counts) ≤ mostEvents) ⌝ }
@@ -228,6 +243,7 @@ fn main() {
     first_days();
     middle_days();
     last_days();
+    days_of_reasons();
     days_with_12();
     widest_days();
 }

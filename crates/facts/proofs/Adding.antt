@@ -21,5 +21,5 @@ module _ (l : List ℕ) (a j k : ℕ) (p : 1 ≤ a) (h : a ≤ length l) (m : le
   pub within-stored : (g : Net) (n : ℕ) → Within g (drop a l) n → Arc g n j → Within g (take k (drop (a - 1) (set l (a - 1) j))) n
   within-stored g n w b = rw stored-first (record { known = known-more g n j (drop a l) b (w .known); few = w .few })
 
-  pub tests-stored : (g : Net) (n : ℕ) (ok : Bool) (times row : List ℕ) → Tests (map (arc g) (take k (drop (a - 1) (set l (a - 1) j)))) n ok times row → Tests (arc g j ∷ map (arc g) (drop a l)) n ok times row
-  tests-stored g n ok times row t = rw stored-first at t
+  pub tests-stored : (g : Net) (n : ℕ) (ok : Bool) (times : List ℕ) → Tests (map (arc g) (take k (drop (a - 1) (set l (a - 1) j)))) n ok times → Tests (arc g j ∷ map (arc g) (drop a l)) n ok times
+  tests-stored g n ok times t = rw stored-first at t

@@ -15,15 +15,14 @@ use Rattle.meaning.proofs.Settling.{Each, In}
 use Rattle.meaning.proofs.Deciding.{satisfies-each, each-satisfies, sound-decides, latest-is, latest-one}
 use Rattle.meaning.proofs.First.{sound-same}
 use Rattle.problem.specs.Arcs.{Net, at, arc}
-use Rattle.facts.specs.Tests.{Within, Tests}
+use Rattle.facts.specs.Tests.{Within, Tests, IsFact}
 use Rattle.facts.specs.Rounds.{Under, Ended}
-use Rattle.facts.specs.Walk.{IsFact}
 use Rattle.facts.proofs.Tables.{left-out}
 use Rattle.facts.proofs.Joining.{each-fact, fact-each, within-in}
 
 -- the answer and the timetable are determined
-pub test-one : (fs : List Alternative) (n : ℕ) (a b : Bool) (s t p q : List ℕ) → Tests fs n a s p → Tests fs n b t q → (a ≡ b) × (a ≡ true → take n s ≡ take n t)
-test-one fs n a b s t p q x y = let e : a ≡ b = x .decides ∙ sym (y .decides) in (e, λ h. x .latest h ∙ sym (y .latest (sym e ∙ h)))
+pub test-one : (fs : List Alternative) (n : ℕ) (a b : Bool) (s t : List ℕ) → Tests fs n a s → Tests fs n b t → (a ≡ b) × (a ≡ true → take n s ≡ take n t)
+test-one fs n a b s t x y = let e : a ≡ b = x .decides ∙ sym (y .decides) in (e, λ h. x .latest h ∙ sym (y .latest (sym e ∙ h)))
 
 -- what lies under every timetable of the facts lies under every one of theirs with one fact more: a test of these may start there
 pub one-more : (g : Net) (L : List ℕ) (j : ℕ) (s : List ℕ) → Under g L s → Under g (j ∷ L) s
@@ -53,8 +52,8 @@ module _ (n : ℕ) (fs gs : List Alternative) (f : (t : Timetable) → Satisfies
       ∙ ap (map natAbs) (latest-one n fs (latestOf n fs) (latestOf n gs) (latest-is n fs i (t, h)) (same-latest (latestOf n gs) (latest-is n gs j (t, f t h))))
       ∙ minutes (least n gs)
 
-  same-tests : Each (In n) fs → Each (In n) gs → (a b : Bool) (s t p q : List ℕ) → Tests fs n a s p → Tests gs n b t q → (a ≡ b) × (a ≡ true → take n s ≡ take n t)
-  same-tests i j a b s t p q x y =
+  same-tests : Each (In n) fs → Each (In n) gs → (a b : Bool) (s t : List ℕ) → Tests fs n a s → Tests gs n b t → (a ≡ b) × (a ≡ true → take n s ≡ take n t)
+  same-tests i j a b s t x y =
       let e : a ≡ b = x .decides ∙ sound-same sound sound-decides fs gs f g ∙ sym (y .decides) in
       (e, λ h. x .latest h ∙ same-least i j (sound-decides .right fs (subst T (sym (sym (x .decides) ∙ h)) tt)) ∙ sym (y .latest (sym e ∙ h)))
 
@@ -67,6 +66,6 @@ more-facts g L M h t s =
     subst (λ (j : ℕ). T (satisfied t (arc g j))) (k .same) (fact-each g (λ a. T (satisfied t a)) L (satisfies-each t (map (arc g) L) s) (k .place) (k .below))))
 
 -- the order of the facts does not matter
-pub order-free : (g : Net) (L M : List ℕ) (n : ℕ) → Within g L n → Within g M n → ((j : ℕ) → IsFact L j → IsFact M j) → ((j : ℕ) → IsFact M j → IsFact L j) → (a b : Bool) (s t p q : List ℕ) → Tests (map (arc g) L) n a s p → Tests (map (arc g) M) n b t q → (a ≡ b) × (a ≡ true → take n s ≡ take n t)
+pub order-free : (g : Net) (L M : List ℕ) (n : ℕ) → Within g L n → Within g M n → ((j : ℕ) → IsFact L j → IsFact M j) → ((j : ℕ) → IsFact M j → IsFact L j) → (a b : Bool) (s t : List ℕ) → Tests (map (arc g) L) n a s → Tests (map (arc g) M) n b t → (a ≡ b) × (a ≡ true → take n s ≡ take n t)
 order-free g L M n v w f h =
     same-tests n (map (arc g) L) (map (arc g) M) (more-facts g L M h) (more-facts g M L f) (within-in g L n v) (within-in g M n w)

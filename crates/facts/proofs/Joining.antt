@@ -1,33 +1,23 @@
--- The join with the meaning: times in minutes before closing that keep arcs are numbers that meet alternatives, and a cycle of arcs is a cycle row.
--- So the answer of a test is the meaning's decision, its latest timetable, or a writing of a cycle row. Assumes nothing.
-use Prim.Native.Nat.{ℕ, zero, suc, _+_, _*_, _-_, _≤_, _<_}
-use mathlib.Core.Path.{_≡_, refl, sym, ap, _∙_, subst}
-use mathlib.Core.Bool.{Bool, true, false, cond, true≢false, false≢true}
-use mathlib.Core.Option.{Option, some}
+-- The join with the meaning: times in minutes before closing that keep arcs are numbers that meet alternatives. So the answer of a test is the meaning's decision and its latest timetable.
+-- Assumes nothing.
+use Prim.Native.Nat.{ℕ, zero, suc, _≤_, _<_}
+use mathlib.Core.Path.{_≡_, refl, sym, _∙_}
+use mathlib.Core.Bool.{Bool, true, false, false≢true}
 use mathlib.Core.List.{List, [], _∷_, map}
 use native.Mathlib.Omega.{arith}
-use lib.Dec.{T, eqb}
-use borrow.Author.Tests.{eqb-true, eqb-false, eq-eqb}
-use lib.IntN.{ℤ, pos, subℕ, _+ℤ_}
-use lib.Signed.{ltZ}
-use lib.ListN.{length, take, replicate, length-append, length-replicate, length-take}
+use lib.IntN.{ℤ}
+use lib.ListN.{length, take, replicate, length-replicate, length-take}
 use lib.Seq.{ext-getD, getD-take}
-use mir.Facts.{yes-and}
-use Rattle.laws.proofs.Differences.{Minus, below, above, minus, sub-add}
+use Rattle.laws.proofs.Differences.{Minus, below, above, minus}
 use Rattle.laws.proofs.Tests.{is-true, is-false}
-use Rattle.meaning.specs.Limits.{mostEvents, mostAlternatives, rowBytes, blankByte}
-use Rattle.meaning.specs.Problem.{Alternative, Sound}
+use Rattle.meaning.specs.Limits.{mostEvents}
+use Rattle.meaning.specs.Problem.{Alternative}
 use Rattle.meaning.specs.Decision.{ask, least, sound}
-use Rattle.meaning.specs.Search.{cycle}
-use Rattle.meaning.specs.Reasons.{named, given, walk, loops, numbers, filled, cycleOver, Writes}
 use Rattle.meaning.proofs.Settling.{Each, In, Meets, zero-at, rounds-length, least-under, sound-right, sound-whole}
-use Rattle.meaning.proofs.Deciding.{day, day-satisfies, sound-decides}
-use Rattle.meaning.proofs.Cycle.{cycle-none}
+use Rattle.meaning.proofs.Deciding.{day, day-satisfies, sound-decides, least-met}
 use Rattle.problem.specs.Arcs.{Net, head, tail, bound, bias, at, arc}
 use Rattle.facts.specs.Tests.{farthest, Within, Tests}
-use Rattle.facts.specs.Rounds.{Kept, Holds, Under}
-use Rattle.facts.specs.Walk.{IsFact, Path, sum, Cycle, padded, TestsFrom}
-use Rattle.facts.proofs.Rows.{row-numbers, row-filled, row-kind}
+use Rattle.facts.specs.Rounds.{Kept, Holds, Under, TestsFrom}
 
 -- ---- times that keep arcs
 module _ (g : Net) (s : ℕ → ℕ) (j : ℕ) where
@@ -96,105 +86,30 @@ module _ (g : Net) (L : List ℕ) (n : ℕ) (w : Within g L n) where
       same : (e : ℕ) → at times e ≡ at (least n fs) e
       same e = omega (arith, least-under n fs inside (λ v. at times v) met e, u .under (λ v. at (least n fs) v) (meets-holds g L (λ v. at (least n fs) v) (sound-right n fs (sound-whole n fs inside (λ v. at times v) met))) e)
 
--- ---- a cycle of arcs
-sub-negative : (a b : ℕ) → a < b → T (ltZ (subℕ a b) (pos 0))
-sub-negative a b h = go (minus a b)
-  where
-    go : {z : ℤ} → Minus a b z → T (ltZ z (pos 0))
-    go (below l) = tt
-    go (above l) = absurd (omega arith)
-
--- a fact is found by its number
-named-fact : (g : Net) (L : List ℕ) (j i : ℕ) → i < length L → at L i ≡ j → named (map (arc g) L) j ≡ some (arc g j)
-unfolding named
-named-fact g [] j i l e = absurd (omega arith)
-named-fact g (k ∷ L) j i l e = go (eqb j k) refl (λ m h d. named-fact g L j m h d) i l e
-  where
-    go : (b : Bool) → eqb j k ≡ b → ((m : ℕ) → m < length L → at L m ≡ j → named (map (arc g) L) j ≡ some (arc g j)) → (i : ℕ) → i < length (k ∷ L) → at (k ∷ L) i ≡ j → cond b (some (arc g k)) (named (map (arc g) L) j) ≡ some (arc g j)
-    go true q more i l e = ap (λ (x : ℕ). some (arc g x)) (sym (eqb-true j k q))
-    go false q more zero l e = absurd (eqb-false j k q (sym e))
-    go false q more (suc m) l e = more m (omega arith) e
-
-module _ (g : Net) (L : List ℕ) where
-  given-fact : (j : ℕ) → IsFact L j → (f : Alternative → Bool) → T (f (arc g j)) → T (given (named (map (arc g) L) j) f)
-  unfolding given
-  given-fact j i f t = subst (λ (o : Option Alternative). T (given o f)) (sym (named-fact g L j (i .place) (i .below) (i .same))) t
-
-  -- a path of facts is a walk, whatever sum it starts from
-  path-walk : (start : ℕ) (bs : List ℕ) (here p q : ℕ) → Path g L here bs start → p + sum g bs < q + length bs * bias → T (walk (map (arc g) L) start here (subℕ p q) bs)
-  unfolding walk
-  path-walk start [] here p q e h =
-      yes-and (eqb here start) (ltZ (subℕ p q) (pos 0)) (subst T (sym (eq-eqb here start e)) tt) (sub-negative p q (omega arith))
-  path-walk start (b ∷ bs) here p q (f, e, r) h =
-      given-fact b f _
-      (yes-and (eqb (tail g b) here) (walk (map (arc g) L) start (head g b) (subℕ p q +ℤ subℕ (bound g b) bias) bs) (subst T (sym (eq-eqb (tail g b) here e)) tt)
-      (subst (λ (z : ℤ). T (walk (map (arc g) L) start (head g b) z bs)) (sym (sub-add p q (bound g b) bias))
-      (path-walk start bs (head g b) (p + bound g b) (q + bias) r (omega arith))))
-
-  cycle-loops : (l : List ℕ) → Cycle g L l → T (loops (map (arc g) L) l)
-  unfolding loops
-  cycle-loops [] c = absurd (omega (arith, c .negative))
-  cycle-loops (b ∷ bs) c = go (c .path)
-    where
-      go : Path g L (c .node) (b ∷ bs) (c .node) → T (given (named (map (arc g) L) b) (λ a. walk (map (arc g) L) (a .y) (a .x) (a .c) bs))
-      go (f, e, r) =
-          given-fact b f (λ a. walk (map (arc g) L) (a .y) (a .x) (a .c) bs)
-          (path-walk (tail g b) bs (head g b) (bound g b) bias (subst (λ (x : ℕ). Path g L (head g b) bs x) (sym e) r) (omega (arith, c .negative)))
-
-  path-facts : (y x : ℕ) (l : List ℕ) → Path g L y l x → (i : ℕ) → i < length l → IsFact L (at l i)
-  path-facts y x [] p i h = absurd (omega arith)
-  path-facts y x (j ∷ js) p zero h = p .0
-  path-facts y x (j ∷ js) p (suc i) h = path-facts (head g j) x js (p .2) i (omega arith)
-
-module _ (g : Net) (L : List ℕ) (n : ℕ) (w : Within g L n) where
-  -- the numbers of a cycle are arc numbers
-  cycle-numbers : (l : List ℕ) → Cycle g L l → (i : ℕ) → i < length l → at l i < 2 * mostAlternatives
-  cycle-numbers l c i h =
-      let f = path-facts g L (c .node) (c .node) l (c .path) i h in
-      omega (arith, f .same, w .known .each (f .place) (f .below) .in-xs, w .few)
-
-  some-numbers : (l : List ℕ) → Cycle g L l → 0 < length l
-  some-numbers [] c = absurd (omega (arith, c .negative))
-  some-numbers (b ∷ bs) c = omega arith
-
-  pub cycle-writes : (l : List ℕ) → Cycle g L l → length l ≤ rowBytes → Writes rowBytes (cycle (map (arc g) L)) (padded rowBytes l)
-  unfolding cycleOver
-  cycle-writes l c h =
-      let k = rowBytes - length l in (
-        omega (arith, length-append l (replicate k blankByte), length-replicate k blankByte),
-        row-kind rowBytes l k (some-numbers l c) (cycle-numbers l c),
-        yes-and (filled (padded rowBytes l)) (loops (map (arc g) L) (numbers (padded rowBytes l))) (row-filled l k (cycle-numbers l c))
-            (subst (λ (r : List ℕ). T (loops (map (arc g) L) r)) (sym (row-numbers l k (cycle-numbers l c))) (cycle-loops g L l c)),
-      )
-
--- facts with a cycle row are not sound
-pub writes-unsound : (fs : List Alternative) (row : List ℕ) → Writes rowBytes (cycle fs) row → sound fs ≡ false
-writes-unsound fs row h =
-    is-false (sound fs) (λ t. let y : Sound fs = sound-decides .right fs t in cycle-none (y .0) fs row (h .2) (y .1))
+  -- where no times keep the facts, they are not sound
+  pub none-unsound : ((t : ℕ → ℕ) → Holds g L t → ⊥) → sound (map (arc g) L) ≡ false
+  none-unsound h =
+      is-false _ (λ y.
+      let met = least-met n (map (arc g) L) (within-in g L n w) (sound-decides .right (map (arc g) L) y) in
+      h (at (least n (map (arc g) L))) (meets-holds g L (at (least n (map (arc g) L))) met))
 
 -- ---- the answer of a test from the extra source is the meaning's
-module _ (g : Net) (L : List ℕ) (n : ℕ) (w : Within g L n) (some : 1 ≤ n) (most : n ≤ mostEvents) (times row : List ℕ) (long : length times ≡ mostEvents) where
-  small-times : (ok : Bool) → TestsFrom g L (replicate mostEvents 0) mostEvents n ok times row → (e : ℕ) → at times e ≤ farthest
+module _ (g : Net) (L : List ℕ) (n : ℕ) (w : Within g L n) (some : 1 ≤ n) (most : n ≤ mostEvents) (times : List ℕ) (long : length times ≡ mostEvents) where
+  small-times : (ok : Bool) → TestsFrom g L (replicate mostEvents 0) n ok times → (e : ℕ) → at times e ≤ farthest
   small-times ok v e = omega (arith, v .risen 0 (λ u. omega (arith, zero-at mostEvents u)) e)
 
-  pub joined : (ok : Bool) → TestsFrom g L (replicate mostEvents 0) mostEvents n ok times row → Tests (map (arc g) L) n ok times row
+  pub joined : (ok : Bool) → TestsFrom g L (replicate mostEvents 0) n ok times → Tests (map (arc g) L) n ok times
   joined true v =
       record {
         decides = sym (holds-sound g L n w (λ u. at times u) (v .keeps refl));
         latest = λ _. holds-least g L n w times (omega arith) (v .keeps refl) (v .under);
         small = small-times true v;
-        names = λ y. absurd (true≢false y);
-        blank = v .blank;
       }
   joined false v =
-      let (l, c, h, e) = v .unsound refl in
-      let r : Writes rowBytes (cycle (map (arc g) L)) row = rw e (cycle-writes g L n w l c (omega arith)) in
       record {
-        decides = sym (writes-unsound (map (arc g) L) row r);
+        decides = sym (none-unsound g L n w (v .unsound refl));
         latest = λ y. absurd (false≢true y);
         small = small-times false v;
-        names = λ _. r;
-        blank = v .blank;
       }
 
 -- nothing lies below the extra source's start

@@ -1,8 +1,6 @@
-pub mod Pigeon
 pub mod Rounding
 pub mod Tables
-pub mod Walking
-pub mod Rows
+pub mod Settling
 pub mod Deciding
 pub mod Joining
 pub mod Adding

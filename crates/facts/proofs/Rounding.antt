@@ -11,8 +11,7 @@ use lib.ListN.{length, length-set}
 use lib.Seq.{getD-set-same, getD-set-other, ext-getD}
 use Rattle.problem.specs.Arcs.{bias, at, Net, head, tail, bound}
 use Rattle.facts.specs.Tests.{Within}
-use Rattle.facts.specs.Rounds.{Holds, Under, relax, upto, round, rows}
-use Rattle.facts.specs.Walk.{RaisedBy, Raised}
+use Rattle.facts.specs.Rounds.{Holds, Under, relax, upto, round, rows, Raised}
 
 -- ---- one fact
 module _ (g : Net) (s : List ℕ) (j : ℕ) (nxt : List ℕ) where
@@ -167,6 +166,11 @@ module _ (g : Net) (L : List ℕ) (n : ℕ) (b : Within g L n) (z : List ℕ) (l
   rows-mono k zero v = rw (add-zero k) (omega arith)
   rows-mono k (suc d) v = rw (add-suc k d) (omega (arith, rows-mono k d v, rows-grow (k + d) v))
 
+  -- each fact is kept between the times before a round and those after it
+  pub rows-cover : (k i : ℕ) → i < length L → at (rows g L z k) (tail g (at L i)) + bias ≤ at (rows g L z (suc k)) (head g (at L i)) + bound g (at L i)
+  unfolding rows
+  rows-cover k i h = upto-covers g L n b (rows g L z k) (fits-row k) (length L) (omega arith) i h
+
   -- times that a further round leaves as they are keep the facts
   pub still-holds : (k : ℕ) → rows g L z (suc k) ≡ rows g L z k → Holds g L (λ v. at (rows g L z k) v)
   unfolding rows
@@ -184,10 +188,3 @@ module _ (g : Net) (L : List ℕ) (n : ℕ) (b : Within g L n) (z : List ℕ) (l
       go : (u : ℕ) → Dec (at (rows g L z k) u < at (rows g L z (suc k)) u) → at (rows g L z (suc k)) u ≡ at (rows g L z k) u
       go u (yes l) = let (i, r) = rose k u l in absurd (omega (arith, h u (omega (arith, b .known .each i (r .below) .in-head, r .raises .heads))))
       go u (no l) = omega (arith, rows-grow k u)
-
-  -- in round k + 2 by one whose tail rose just before
-  pub rose-before : (k v i : ℕ) → RaisedBy g L (rows g L z (suc k)) (rows g L z (suc (suc k))) v i → at (rows g L z (suc k)) v < at (rows g L z (suc (suc k))) v → at (rows g L z k) (tail g (at L i)) < at (rows g L z (suc k)) (tail g (at L i))
-  rose-before k v i p r =
-      let c : at (rows g L z k) (tail g (at L i)) + bias ≤ at (rows g L z (suc k)) (head g (at L i)) + bound g (at L i) = unfold rows in upto-covers g L n b (rows g L z k) (fits-row k) (length L) (omega arith) i (p .below) in
-      let d : at (rows g L z (suc k)) (head g (at L i)) ≡ at (rows g L z (suc k)) v = ap (λ (v : ℕ). at (rows g L z (suc k)) v) (p .raises .heads) in
-      omega (arith, p .raises .exact)

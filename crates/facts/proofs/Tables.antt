@@ -1,20 +1,16 @@
--- A table of the rounds' times, row by row, where the rounds may end, and a fact that raises an event between two rows. Assumes nothing.
+-- A table of the rounds' times, row by row, and where the rounds may end. Assumes nothing.
 use Prim.Native.Nat.{ℕ, suc, _+_, _*_, _-_, _≤_, _<_, max}
 use mathlib.Core.Path.{_≡_, refl, sym, ap, _∙_}
-use mathlib.Core.Bool.{false}
 use mathlib.Core.List.{List, []}
 use native.Mathlib.Omega.{arith}
 use native.Mathlib.Numerals.{add-one}
 use native.Mathlib.Decide.{decLe}
-use lib.Dec.{eqb}
 use lib.ListN.{length, getD, set}
 use lib.Seq.{getD-set-same, getD-set-other}
-use borrow.Author.Tests.{eqb-true, eqb-false}
 use borrow.Author.Count.{below-more}
 use Rattle.problem.specs.Arcs.{bias, at, Net, head, tail, bound}
 use Rattle.facts.specs.Tests.{Within}
 use Rattle.facts.specs.Rounds.{relax, upto, round, rows, Rounds, Moving, Ended, Stays, Rising}
-use Rattle.facts.specs.Walk.{Raises, Says}
 use Rattle.facts.proofs.Rounding.{rows-bounded, rows-mono, same-after, none-rose}
 
 -- a turn of a round's loop
@@ -86,20 +82,3 @@ left-out g L n b z long k t h l =
     none-rose g L n b z long (k - 1) (λ u _.
     let e : suc (k - 1) + (n - 1 - k) ≡ n - 1 = omega (arith, h .some) in
     omega (arith, rows-mono g L n b z long (suc (k - 1)) (n - 1 - k) u, ap (λ (i : ℕ). at (rows g L z i) u) e, ap (λ (s : List ℕ). at s u) (h .before)))
-
--- a table's rounds start from its first row
-pub started : (g : Net) (L s : List ℕ) (n : ℕ) (t : List (List ℕ)) → Rounds g L s n t → s ≡ getD t 0 []
-unfolding rows
-started g L s n t h = sym (h .row 0 (omega arith))
-
-module _ (g : Net) (s r : List ℕ) (v j x y : ℕ) (p : x ≡ head g j) (q : y ≡ tail g j) where
-  pub says-raises : x ≡ v → Says (Raises g s r v j) (eqb (at s y + bias) (at r v + bound g j))
-  says-raises e =
-      let f : at s y ≡ at s (tail g j) = ap (λ (u : ℕ). at s u) q in
-      record {
-        yes = λ h. record { heads = sym p ∙ e; exact = omega (arith, eqb-true (at s y + bias) (at r v + bound g j) h) };
-        no = λ h k. eqb-false (at s y + bias) (at r v + bound g j) h (omega (arith, k .exact));
-      }
-
-  pub says-apart : (x ≡ v → ⊥) → Says (Raises g s r v j) false
-  says-apart e = record { yes = λ h. let z : _≡_ {A = ℕ} 0 1 = cc in absurd (omega arith); no = λ h k. e (p ∙ k .heads) }

@@ -1,6 +1,7 @@
--- The rounds that test a set of facts, from any start that lies under every timetable of theirs: in a round each fact raises the time of its head, going by the times before the round (001).
+-- The rounds that test a set of facts, from any start that lies under every timetable of theirs: in a round each fact raises the time of its head, going by the times before the round (001). And the answer of a test by them.
 -- Times are minutes before closing. Definitions only.
 use mathlib.Core.Path.{_≡_}
+use mathlib.Core.Bool.{Bool, true, false}
 use mathlib.Core.List.{List, []}
 use Prim.Native.Nat.{ℕ, zero, suc, _+_, _*_, _-_, _≤_, _<_, max}
 use lib.ListN.{length, getD, set}
@@ -67,3 +68,24 @@ pub record Rising (w : ℕ) (s r : List ℕ) (v : ℕ) : Type 0 where
   pub most : v ≤ w
   pub rises : v < w → at s v < at r v
   pub none : v ≡ w → (u : ℕ) → u < w → at r u ≤ at s u
+
+-- arc j raises v from the times s to the times r
+pub record Raises (g : Net) (s r : List ℕ) (v j : ℕ) : Type 0 where
+  pub heads : head g j ≡ v
+  pub exact : at r v + bound g j ≡ at s (tail g j) + bias
+
+-- place i of the facts holds an arc that raises v
+pub record RaisedBy (g : Net) (L s r : List ℕ) (v i : ℕ) : Type 0 where
+  pub below : i < length L
+  pub raises : Raises g s r v (at L i)
+
+-- some fact raises v
+abbrev pub Raised : Net → List ℕ → List ℕ → List ℕ → ℕ → Type 0
+Raised g L s r v = (i : ℕ) × RaisedBy g L s r v i
+
+-- the answer of a test from the times z: times that lie under every timetable of the facts and keep them, or no timetable does
+pub record TestsFrom (g : Net) (L z : List ℕ) (n : ℕ) (ok : Bool) (times : List ℕ) : Type 0 where
+  pub keeps : ok ≡ true → Holds g L (λ v. at times v)
+  pub under : Under g L times
+  pub risen : (m : ℕ) → ((v : ℕ) → at z v ≤ m) → (v : ℕ) → at times v ≤ m + (n - 1) * bias
+  pub unsound : ok ≡ false → (t : ℕ → ℕ) → Holds g L t → ⊥

@@ -1,15 +1,13 @@
--- What the test of a set of facts asks and says: 01, "a standing is sound if some timetable satisfies its facts", "its latest timetable", and the cycle rows of "The list of reasons".
+-- What the test of a set of facts asks and says: 01, "a standing is sound if some timetable satisfies its facts", and "its latest timetable".
 -- The facts are arc numbers, the times minutes before closing. Definitions only.
 use mathlib.Core.Path.{_≡_}
-use mathlib.Core.Bool.{Bool, true, false}
+use mathlib.Core.Bool.{Bool, true}
 use mathlib.Core.List.{List}
-use Prim.Native.Nat.{ℕ, _*_, _-_, _≤_}
-use lib.ListN.{length, take, replicate}
-use Rattle.meaning.specs.Limits.{mostEvents, mostAlternatives, rowBytes, blankByte}
+use Prim.Native.Nat.{ℕ, _*_, _-_, _≤_, _<_}
+use lib.ListN.{length, take}
+use Rattle.meaning.specs.Limits.{mostEvents, mostAlternatives}
 use Rattle.meaning.specs.Problem.{Alternative}
 use Rattle.meaning.specs.Decision.{sound, least}
-use Rattle.meaning.specs.Search.{cycle}
-use Rattle.meaning.specs.Reasons.{Writes}
 use Rattle.problem.specs.Arcs.{Net, bias, at, Known}
 pub use Rattle.problem.specs.Arcs.{places}
 
@@ -22,10 +20,14 @@ pub record Within (g : Net) (L : List ℕ) (n : ℕ) : Type 0 where
   pub known : Known g n L
   pub few : length (g .xs) ≤ 2 * mostAlternatives
 
--- the answer of a test of the facts fs over n events: whether they are sound; if so the latest timetable and no row, if not a cycle row over them
-pub record Tests (fs : List Alternative) (n : ℕ) (ok : Bool) (times row : List ℕ) : Type 0 where
+-- arc number j is one of the facts
+pub record IsFact (L : List ℕ) (j : ℕ) : Type 0 where
+  pub place : ℕ
+  pub below : place < length L
+  pub same : at L place ≡ j
+
+-- the answer of a test of the facts fs over n events: whether they are sound, and if so the latest timetable
+pub record Tests (fs : List Alternative) (n : ℕ) (ok : Bool) (times : List ℕ) : Type 0 where
   pub decides : ok ≡ sound fs
   pub latest : ok ≡ true → take n times ≡ least n fs
   pub small : (e : ℕ) → at times e ≤ farthest
-  pub names : ok ≡ false → Writes rowBytes (cycle fs) row
-  pub blank : ok ≡ true → row ≡ replicate rowBytes blankByte

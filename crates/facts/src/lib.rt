@@ -1,35 +1,25 @@
-// The test of a set of facts, by rounds from an extra source (001): the latest timetable, or a cycle of facts below 0.
+// The test of a set of facts, by rounds from an extra source (001): whether they are sound, and the latest timetable.
 // Arcs come in three slices by their numbers, facts as arc numbers; times are minutes before closing.
-mod rounds;
-mod walk;
+pub mod rounds;
 
 use problem::EVENTS;
-use problem::ROW;
 use rounds::ROWS;
 use rounds::put_rounds;
 use rounds::rising;
-use walk::repeat;
-use walk::row_of;
-use walk::walk_back;
 ghost use Prim.Native.Nat.{ℕ, _≤_};
 ghost use mathlib.Core.List.{_∷_, map};
 ghost use lib.ListN.{drop};
 ghost use Rattle.meaning.specs.Limits.{mostEvents};
 ghost use Rattle.problem.specs.Arcs.{at, net, arc, Arc};
 ghost use Rattle.facts.specs.Tests.{farthest, places, Within, Tests};
-ghost use Rattle.facts.specs.Rounds.{Under};
-ghost use Rattle.facts.specs.Walk.{TestsFrom};
+ghost use Rattle.facts.specs.Rounds.{Under, TestsFrom};
 
 // The places of a buffer of facts: one for each alternative or its opposite, and one for an arc that is tested with them.
 pub const PLACES: usize = 65;
 
-// What fills a row after its numbers.
-const BLANK: u8 = 255;
-
 pub struct Tested {
     pub ok: bool,
     pub times: [u32; EVENTS],
-    pub row: [u8; ROW],
 }
 
 // The test from times that lie under every timetable of the facts.
@@ -42,37 +32,23 @@ fn test_from(
     start: [u32; EVENTS],
 ) -> Tested
     requires { ⌜ Within (net (now xs) (now ys) (now bs)) (now facts) n × (1 ≤ n) × (n ≤ mostEvents) × ((v : ℕ) → at start v ≤ farthest) × Under (net (now xs) (now ys) (now bs)) (now facts) start ⌝ }
-    ensures { λ r. ⌜ TestsFrom (net (now (xs .entry)) (now (ys .entry)) (now (bs .entry))) (now (facts .entry)) start mostEvents n (r .ok) (r .times) (r .row) ⌝ }
+    ensures { λ r. ⌜ TestsFrom (net (now (xs .entry)) (now (ys .entry)) (now (bs .entry))) (now (facts .entry)) start n (r .ok) (r .times) ⌝ }
 {
     let mut t = [[0; EVENTS]; ROWS];
     let k = put_rounds(xs, ys, bs, facts, n, start, &mut t);
     let last = t[k];
     let before = t[k - 1];
     let v = rising(before, last, n);
-    if v < n {
-        let w = walk_back(xs, ys, bs, facts, t, n, v as u8);
-        let nodes = w.nodes;
-        let arcs = w.arcs;
-        let p = repeat(nodes, n);
-        let row = row_of(arcs, p.first, p.more);
-        Tested {
-            ok: false,
-            times: before,
-            row,
-        }
-    } else {
-        Tested {
-            ok: true,
-            times: before,
-            row: [BLANK; ROW],
-        }
+    Tested {
+        ok: n <= v,
+        times: before,
     }
 }
 
-// The test of a set of facts: the latest timetable in minutes before closing, or a cycle below 0.
+// The test of a set of facts: whether they are sound, and the latest timetable in minutes before closing.
 pub fn test(xs: &[u8], ys: &[u8], bs: &[u32], facts: &[u8], n: usize) -> Tested
     requires { ⌜ Within (net (now xs) (now ys) (now bs)) (now facts) n × (1 ≤ n) × (n ≤ mostEvents) ⌝ }
-    ensures { λ r. ⌜ Tests (map (arc (net (now (xs .entry)) (now (ys .entry)) (now (bs .entry)))) (now (facts .entry))) n (r .ok) (r .times) (r .row) ⌝ }
+    ensures { λ r. ⌜ Tests (map (arc (net (now (xs .entry)) (now (ys .entry)) (now (bs .entry)))) (now (facts .entry))) n (r .ok) (r .times) ⌝ }
 {
     test_from(xs, ys, bs, facts, n, [0; EVENTS])
 }
@@ -88,7 +64,7 @@ pub fn test_with(
     n: usize,
 ) -> Tested
     requires { ⌜ Within (net (now xs) (now ys) (now bs)) (drop at buffer) n × Arc (net (now xs) (now ys) (now bs)) n j × (1 ≤ at) × (at ≤ places) × (1 ≤ n) × (n ≤ mostEvents) ⌝ }
-    ensures { λ r. ⌜ Tests (arc (net (now (xs .entry)) (now (ys .entry)) (now (bs .entry))) j ∷ map (arc (net (now (xs .entry)) (now (ys .entry)) (now (bs .entry)))) (drop at buffer)) n (r .ok) (r .times) (r .row) ⌝ }
+    ensures { λ r. ⌜ Tests (arc (net (now (xs .entry)) (now (ys .entry)) (now (bs .entry))) j ∷ map (arc (net (now (xs .entry)) (now (ys .entry)) (now (bs .entry)))) (drop at buffer)) n (r .ok) (r .times) ⌝ }
 {
     let mut all = buffer;
     let first = at - 1;

@@ -34,7 +34,7 @@ fn raised(old: u32, u: u32, b: u32) -> u32
 }
 
 // One round of all facts.
-fn round_of(xs: &[u8], ys: &[u8], bs: &[u32], facts: &[u8], cur: [u32; EVENTS]) -> [u32; EVENTS]
+pub fn round_of(xs: &[u8], ys: &[u8], bs: &[u32], facts: &[u8], cur: [u32; EVENTS]) -> [u32; EVENTS]
     requires { ⌜ Within (net (now xs) (now ys) (now bs)) (now facts) mostEvents × ((v : ℕ) → at cur v ≤ ceiling) ⌝ }
     ensures { λ r. ⌜ r ≡ round (net (now (xs .entry)) (now (ys .entry)) (now (bs .entry))) (now (facts .entry)) cur ⌝ }
 {

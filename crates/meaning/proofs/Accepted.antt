@@ -65,7 +65,7 @@ module _ (P : Alternative → Type 0) where
   each-drop (suc k) [] h = tt
   each-drop (suc k) (a ∷ more) h = each-drop k more (h .1)
 
-  parted-every : (from : ℕ) (counts : List ℕ) (fs : List Alternative) → Each P fs → Every P (parted from counts fs)
+  pub parted-every : (from : ℕ) (counts : List ℕ) (fs : List Alternative) → Each P fs → Every P (parted from counts fs)
   unfolding parted
   parted-every from [] fs h = tt
   parted-every from (e ∷ counts) fs h =
@@ -131,7 +131,7 @@ first-count last from e counts t =
     record { up = leb→le from e (each .0); by = leb→le e (from + mostInClause) (each .1); rest = two .1 }
 
 -- ---- from the tests to the facts
-alternatives-in : (n j : ℕ) (xs : List ℤ) → T (events (areEvents n) xs) → Each (In n) (alternatives j xs)
+pub alternatives-in : (n j : ℕ) (xs : List ℤ) → T (events (areEvents n) xs) → Each (In n) (alternatives j xs)
 unfolding alternatives
 alternatives-in n j [] t = tt
 alternatives-in n j (x ∷ []) t = tt

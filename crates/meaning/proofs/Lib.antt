@@ -22,6 +22,8 @@ pub mod Listing
 pub mod Refusals
 pub mod Accepted
 pub mod Apart
+pub mod Unsound
+pub mod Named
 pub mod Range
 pub mod Fits
 pub mod Order

@@ -14,7 +14,7 @@ use Rattle.meaning.specs.Limits.{mostClauses, onwardMark}
 use Rattle.meaning.specs.Problem.{Alternative, opposite, Clause, Timetable, satisfied, Satisfies}
 use Rattle.meaning.specs.Plain.{Selection, nowhere, chosen, Holds}
 use Rattle.meaning.specs.Search.{Row, mark, cycle, Outcome, found, closed, stopped, enter, look, later, andThen, branch, dead, firstDead, search}
-use Rattle.meaning.specs.Reasons.{cycleOver, same, Kind, ring, onward, bad, deadAt, markRow, kind, cycleRows, front, reading, andRead, eachRead, read, Writes}
+use Rattle.meaning.specs.Reasons.{cycleOver, same, Kind, ring, onward, bad, deadAt, markRow, kind, cycleRows, front, reading, andRead, eachRead, read}
 use Rattle.meaning.proofs.First.{Closed, closed-both, closed-empty}
 use Rattle.meaning.proofs.Cycle.{cycle-none}
 
@@ -103,10 +103,15 @@ kind-dead W m l =
     R : List ℕ
     R = replicate (W - 1) 255
 
--- the rows begin with a writing of r, and go on with rest
+-- a row of bytes that is read as a row of the search: its mark, or any cycle over its facts
+abbrev pub ReadAs : ℕ → Row → List ℕ → Type 0
+ReadAs W (mark b) row = row ≡ markRow W b
+ReadAs W (cycle fs) row = (kind W row ≡ ring) × T (cycleOver fs row)
+
+-- the rows begin with some that are read as r, and go on with rest
 abbrev pub Front : ℕ → List Row → Rows → Rows → Type 0
 Front W [] rows rest = rows ≡ rest
-Front W (x ∷ r) rows rest = (row : List ℕ) × (tail : Rows) × (rows ≡ row ∷ tail) × Writes W x row × Front W r tail rest
+Front W (x ∷ r) rows rest = (row : List ℕ) × (tail : Rows) × (rows ≡ row ∷ tail) × ReadAs W x row × Front W r tail rest
 
 front-append : (W : ℕ) (r s : List Row) (rows rest : Rows) → Front W (r ++ s) rows rest → (mid : Rows) × Front W r rows mid × Front W s mid rest
 front-append W [] s rows rest h = (rows, refl, h)
@@ -132,7 +137,7 @@ module _ (W : ℕ) where
   cycles-read fs [] rows rest h = ap some h
   cycles-read fs (a ∷ more) rows rest (row, tail, e, w, h) =
       ap (cycleRows W fs (a ∷ more)) e
-      ∙ ap (λ (b : Bool). cond b (cycleRows W fs more tail) none) (is-true (cycleOver (a ∷ fs) row) (w .2))
+      ∙ ap (λ (b : Bool). cond b (cycleRows W fs more tail) none) (is-true (cycleOver (a ∷ fs) row) (w .1))
       ∙ cycles-read fs more tail rest h
 
   abbrev pub Readable : List Clause → ℕ → List Alternative → Outcome → Type 0
@@ -202,7 +207,7 @@ module _ (W : ℕ) where
   unfolding enter front
   enter-readable false k cs fs v go h =
       λ rows rest (row, tail, e, w, f).
-      ap (read W cs k fs) e ∙ read-kind cs k fs row tail ring (w .1) ∙ (ap (λ (b : Bool). cond b (some tail) none) (is-true (cycleOver fs row) (w .2)) ∙ ap some f)
+      ap (read W cs k fs) e ∙ read-kind cs k fs row tail ring (w .0) ∙ (ap (λ (b : Bool). cond b (some tail) none) (is-true (cycleOver fs row) (w .1)) ∙ ap some f)
   enter-readable true k cs fs zero go h = tt
   enter-readable true k cs fs (suc w) go h = h w
 

@@ -1,7 +1,7 @@
--- What the definitions settle: two results that they allow for one input are the same, cycle rows apart; and programs that they shut out. Assumes nothing.
+-- What the definitions settle: two results that they allow for one input are the same; and programs that they shut out. Assumes nothing.
 use mathlib.Core.Path.{_≡_, sym, ap, _∙_, subst}
-use mathlib.Core.List.{List, [], _∷_, _++_}
-use Prim.Native.Nat.{ℕ, _-_, _<_}
+use mathlib.Core.List.{List, [], _∷_}
+use Prim.Native.Nat.{ℕ, _<_}
 use native.Mathlib.Omega.{arith}
 use lib.IntN.{ℤ, pos}
 use lib.ListN.{length, getD, replicate, length-replicate, getD-replicate}
@@ -11,9 +11,6 @@ use Rattle.meaning.specs.declared.Answer.the-variants.{Plan, Stopped, Re
 use Rattle.meaning.specs.declared.Verdict.{Verdict}
 use Rattle.meaning.specs.declared.Verdict.the-variants.{Yes, No}
 use Rattle.meaning.specs.declared.Panel.{Panel}
-use Rattle.meaning.specs.Limits.{rowBytes, blankByte}
-use Rattle.meaning.specs.Search.{Row}
-use Rattle.meaning.specs.Reasons.{Written}
 use Rattle.meaning.specs.Screen.{Lent, Input, screen, Shows}
 use Rattle.meaning.specs.Verdicts.{reasonsVerdict, timetableVerdict}
 use Rattle.meaning.specs.Lamps.{panel}
@@ -22,31 +19,9 @@ use Rattle.meaning.proofs.Witnesses.{reasons-yes, timetable-yes}
 use Rattle.meaning.proofs.Days.{Seen, days, seen, days-hold, d1, d4, d4-list, d4-read, d1-read, d8, usual, minus}
 
 -- ---- two results for one input
--- lists of reasons of one room that differ at most in the cycles that they name
-pub record CyclesApart (room : ℕ) (r s : List ℕ) : Type 0 where
-  pub rows : List Row
-  pub left : List ℕ
-  pub right : List ℕ
-  pub left-written : Written rowBytes rows left
-  pub right-written : Written rowBytes rows right
-  pub left-is : r ≡ left ++ replicate (room - length left) blankByte
-  pub right-is : s ≡ right ++ replicate (room - length right) blankByte
-
-pub screens-same : (i : Input) (a b : Answer) (t u : List ℤ) (p q r s : List ℕ) → Shows i a t p r → Shows i b u q s → (a ≡ b) × (t ≡ u) × (p ≡ q) × CyclesApart (i .room) r s
-screens-same i a b t u p q r s h k = (
-  h .answers ∙ sym (k .answers),
-  h .times-are ∙ sym (k .times-are),
-  h .picks-are ∙ sym (k .picks-are),
-  record {
-    rows = screen i .rows;
-    left = h .list;
-    right = k .list;
-    left-written = h .written;
-    right-written = k .written;
-    left-is = h .reasons-are;
-    right-is = k .reasons-are;
-  },
-)
+pub screens-same : (i : Input) (a b : Answer) (t u : List ℤ) (p q r s : List ℕ) → Shows i a t p r → Shows i b u q s → (a ≡ b) × (t ≡ u) × (p ≡ q) × (r ≡ s)
+screens-same i a b t u p q r s h k =
+    (h .answers ∙ sym (k .answers), h .times-are ∙ sym (k .times-are), h .picks-are ∙ sym (k .picks-are), h .reasons-are ∙ sym (k .reasons-are))
 
 pub verdicts-same : (l : Lent) (list : List ℕ) (v w : Verdict) → v ≡ reasonsVerdict l list → w ≡ reasonsVerdict l list → v ≡ w
 verdicts-same l list v w h k = h ∙ sym k
@@ -67,7 +42,7 @@ pub record Planner : Type 0 where
   pub shows : (i : Input) → Shows i (answer i) (times i) (picks i) (reasons i)
 
 abbrev dark : Seen
-dark = record { answer = Refused 0; times = []; picks = []; rows = []; lamps = 0; total = 0 }
+dark = record { answer = Refused 0; times = []; picks = []; reasons = []; lamps = 0; total = 0 }
 
 d1-plan : screen (usual d1) .answer ≡ Plan 2 0
 unfolding days seen

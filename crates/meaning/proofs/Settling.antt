@@ -212,7 +212,7 @@ lower-one v s = go (ltb v s) refl
     go true e = let h : v < s = ltb→lt v s (subst T (sym e) tt) in omega arith
     go false e = omega arith
 
-total-lower : (v σ : ℕ → ℕ) (n : ℕ) → total (λ e. lower (v e) (σ e)) n + tally (λ e. ltb (v e) (σ e)) n ≡ total σ n
+pub total-lower : (v σ : ℕ → ℕ) (n : ℕ) → total (λ e. lower (v e) (σ e)) n + tally (λ e. ltb (v e) (σ e)) n ≡ total σ n
 unfolding total tally
 total-lower v σ zero = refl
 total-lower v σ (suc n) = omega (arith, total-lower v σ n, lower-one (v n) (σ n))

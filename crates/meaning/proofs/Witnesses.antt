@@ -19,7 +19,8 @@ use Rattle.meaning.specs.Problem.{Clause, Timetable, satisfied, Some, Ke
 use Rattle.meaning.specs.Plain.{timesOf}
 use Rattle.meaning.specs.Decision.{sound}
 use Rattle.meaning.specs.Search.{found, closed}
-use Rattle.meaning.specs.Reasons.{isReading, Written}
+use Rattle.meaning.specs.Reasons.{isReading}
+use Rattle.meaning.specs.Listing.{listing, rowsIn}
 use Rattle.meaning.specs.Screen.{Lent, Input, clausesOf, problemRefusal, Screen, cleared, listed, shown, screen, Shows}
 use Rattle.meaning.specs.Verdicts.{verdict, reasonsVerdict, some, keeps, timetableRefusal, timetableVerdict}
 use Rattle.meaning.proofs.Settling.{Each, In}
@@ -27,7 +28,8 @@ use Rattle.meaning.proofs.Accepted.{Accepted, Every}
 use Rattle.meaning.proofs.Refusals.{none-failed, problem-passed}
 use Rattle.meaning.proofs.Demands.{kept-holds}
 use Rattle.meaning.proofs.Reading.{Readable, search-readable}
-use Rattle.meaning.proofs.Listing.{reading-none, written-reading}
+use Rattle.meaning.proofs.Listing.{reading-none, listing-reading}
+use Rattle.meaning.proofs.Named.{none-rows}
 use Rattle.meaning.proofs.Endings.{Ending, refuses, plans, lists, omits, stops, ending, Shown, shows-means}
 
 -- ---- the test of a timetable is the meaning of "keeps"
@@ -115,12 +117,9 @@ none-read i v b k times picks reasons s = go (ending i)
     go (stops c r p a e q) = not-so i (None v b k) times picks reasons s (cleared i (Stopped (i .allowance) c)) q (λ d. unfold cleared in cc)
     go (lists c r w a e f q) =
         both-yes (problemRefusal (i .lent)) (isReading rowBytes (clausesOf (i .lent)) reasons) (a .taken)
-        (subst (λ (l : List ℕ). T (isReading rowBytes (clausesOf (i .lent)) l)) (sym (s .reasons-are))
-        (written-reading rowBytes (omega arith) (clausesOf (i .lent)) r (s .list) (i .room - length (s .list)) written readable))
+        (subst (λ (l : List ℕ). T (isReading rowBytes (clausesOf (i .lent)) l)) (sym (s .reasons-are ∙ ap (λ (x : Screen). x .reasons) q))
+        (unfold rowsIn in listing-reading rowBytes (omega arith) (clausesOf (i .lent)) r (i .room - length (listing rowBytes r)) (none-rows (i .lent) a (i .allowance) c r w e) readable))
       where
-        written : Written rowBytes r (s .list)
-        written = subst (λ (x : Screen). Written rowBytes (x .rows) (s .list)) q (s .written)
-
         readable : Readable rowBytes (clausesOf (i .lent)) 0 [] (closed c r w)
         readable = subst (Readable rowBytes (clausesOf (i .lent)) 0 []) e (search-readable rowBytes sound (clausesOf (i .lent)) 0 [] (i .allowance) (omega (arith, a .few)))
 

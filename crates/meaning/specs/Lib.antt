@@ -5,6 +5,7 @@ pub mod Decision
 pub mod Search
 pub mod Reasons
 pub mod Shortest
+pub mod Listing
 pub mod Screen
 pub mod Verdicts
 pub mod Lamps

@@ -1,16 +1,14 @@
 -- The list of reasons: its rows as bytes, and what a reading of them is: 01, "The list of reasons". A row is W bytes. Definitions only.
-use mathlib.Core.Path.{_≡_}
 use mathlib.Core.Bool.{Bool, true, false, cond, _&&_}
 use mathlib.Core.Option.{Option, some, none}
-use mathlib.Core.List.{List, [], _∷_, _++_}
+use mathlib.Core.List.{List, [], _∷_}
 use Prim.Native.Nat.{ℕ, zero, suc, _+_, _-_, _*_, _/_}
-use lib.Dec.{T, leb, ltb, eqb}
+use lib.Dec.{leb, ltb, eqb}
 use lib.IntN.{ℤ, pos, _+ℤ_}
 use lib.Signed.{ltZ}
 use lib.ListN.{length, getD, take, drop, replicate}
 use Rattle.meaning.specs.Limits.{mostAlternatives, onwardMark, deadMark, blankByte}
 use Rattle.meaning.specs.Problem.{Alternative, opposite, Clause}
-use Rattle.meaning.specs.Search.{Row, mark, cycle}
 
 -- ---- a cycle row
 -- the fact with a number
@@ -125,13 +123,3 @@ module _ (W : ℕ) where
   -- "the front is one whole reading and all bytes after it are 255"
   unfoldable pub isReading : List Clause → List ℕ → Bool
   isReading cs bytes = ends (read cs 0 [] (rowsOf bytes)) (drop (length bytes / W * W) bytes)
-
-  -- ---- a writing of rows, whichever valid cycles it names
-  abbrev pub Writes : Row → List ℕ → Type 0
-  Writes (mark b) row = row ≡ markRow b
-  Writes (cycle fs) row = (length row ≡ W) × (kind row ≡ ring) × T (cycleOver fs row)
-
-  -- the rows one after the other
-  abbrev pub Written : List Row → List ℕ → Type 0
-  Written [] bytes = bytes ≡ []
-  Written (r ∷ rs) bytes = (row : List ℕ) × (more : List ℕ) × (bytes ≡ row ++ more) × Writes r row × Written rs more

@@ -16,7 +16,7 @@ use Rattle.meaning.specs.Problem.{Alternative, Clause}
 use Rattle.meaning.specs.Plain.{chosen}
 use Rattle.meaning.specs.Decision.{sound, latestOf}
 use Rattle.meaning.specs.Search.{Row, Outcome, found, closed, stopped, search}
-use Rattle.meaning.specs.Reasons.{Written}
+use Rattle.meaning.specs.Listing.{rowsIn}
 
 -- ---- the input
 -- a problem as it is lent: "alternatives come as one list of triples, numbered from 0; a second list gives, per clause, how many alternatives lie in it and all before it"
@@ -118,20 +118,20 @@ unfoldable pub refusal : Input → ℕ
 refusal i = firstFailed (problemTests (i .lent) ++ planTests i)
 
 -- ---- the screen
--- the answer, the timetable and the picks as they are left, and the rows that the reasons begin with
+-- the answer, and the timetable, the picks and the reasons as they are left
 pub record Screen : Type 0 where
   pub answer : Answer
   pub times : List ℤ
   pub picks : List ℕ
-  pub rows : List Row
+  pub reasons : List ℕ
 
 -- no plan and no list: "all 1; all 255; all 255"
 unfoldable pub cleared : Input → Answer → Screen
-cleared i a = record { answer = a; times = replicate (i .times) noTime; picks = replicate (i .picks) blankByte; rows = [] }
+cleared i a = record { answer = a; times = replicate (i .times) noTime; picks = replicate (i .picks) blankByte; reasons = replicate (i .room) blankByte }
 
 -- none, by whether the rows fit
 unfoldable pub listed : Input → ℕ → ℕ → List Row → Bool → Screen
-listed i v b r true = record { answer = None v b (length r); times = replicate (i .times) noTime; picks = replicate (i .picks) blankByte; rows = r }
+listed i v b r true = record { answer = None v b (length r); times = replicate (i .times) noTime; picks = replicate (i .picks) blankByte; reasons = rowsIn rowBytes (i .room) r }
 listed i v b r false = cleared i (Unlisted v b (length r))
 
 -- the table of "What the screen may say", by how the search ends
@@ -141,7 +141,7 @@ shown i (found p b left) =
       answer = Plan (i .allowance - left) b;
       times = latestOf (i .lent .n) (chosen (clausesOf (i .lent)) p) ++ replicate (i .times - i .lent .n) noTime;
       picks = p ++ replicate (i .picks - length p) blankByte;
-      rows = [];
+      reasons = replicate (i .room) blankByte;
     }
 shown i (closed b r left) = listed i (i .allowance - left) b r (leb (length r * rowBytes) (i .room))
 shown i (stopped b r p) = cleared i (Stopped (i .allowance) b)
@@ -157,11 +157,9 @@ decided i (suc r) = cleared i (Refused (suc r))
 unfoldable pub screen : Input → Screen
 screen i = decided i (refusal i)
 
--- what a call may leave: the screen's answer, timetable and picks, and in the reasons a writing of its rows, "then 255s"
+-- what a call leaves: what the screen says, in every element
 pub record Shows (i : Input) (answer : Answer) (times : List ℤ) (picks reasons : List ℕ) : Type 0 where
   pub answers : answer ≡ screen i .answer
   pub times-are : times ≡ screen i .times
   pub picks-are : picks ≡ screen i .picks
-  pub list : List ℕ
-  pub written : Written rowBytes (screen i .rows) list
-  pub reasons-are : reasons ≡ list ++ replicate (i .room - length list) blankByte
+  pub reasons-are : reasons ≡ screen i .reasons

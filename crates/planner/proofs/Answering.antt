@@ -1,5 +1,5 @@
 -- What is left after a search is what the screen shows of the call. Assumes nothing.
-use mathlib.Core.Path.{_≡_, refl, sym, ap, ap₂, _∙_, subst}
+use mathlib.Core.Path.{_≡_, refl, sym, ap, ap₂, _∙_}
 use mathlib.Core.Bool.{true, false}
 use mathlib.Core.List.{List, [], _++_}
 use Prim.Native.Nat.{ℕ, zero, suc, _-_, _*_, _<_, _≤_}
@@ -15,8 +15,8 @@ use Rattle.meaning.specs.Limits.{rowBytes, blankByte, noTime}
 use Rattle.meaning.specs.Problem.{Clause}
 use Rattle.meaning.specs.Plain.{chosen, product, rank}
 use Rattle.meaning.specs.Decision.{sound, latestOf}
-use Rattle.meaning.specs.Search.{Row, Outcome, found, closed, stopped, search}
-use Rattle.meaning.specs.Reasons.{Written}
+use Rattle.meaning.specs.Search.{Outcome, found, closed, stopped, search}
+use Rattle.meaning.specs.Listing.{rowsIn}
 use Rattle.meaning.specs.Screen.{Input, refusal, Screen, cleared, listed, shown, decided, screen, Shows}
 use Rattle.meaning.proofs.Deciding.{sound-decides}
 use Rattle.meaning.proofs.First.{plan-first, none-holds, stop-place}
@@ -27,23 +27,21 @@ use Rattle.search.specs.Steps.{positions, Found, Ended, Stopped as Halted}
 use Rattle.search.proofs.Steps.{deep}
 use Rattle.planner.specs.Call.{Accepts, Closes, Plans}
 
--- a screen without rows leaves all reasons 255
-no-rows : (i : Input) (a : Answer) (t : List ℤ) (p r : List ℕ) (x : Screen) → screen i ≡ x → a ≡ x .answer → t ≡ x .times → p ≡ x .picks → x .rows ≡ [] → r ≡ replicate (i .room) blankByte → Shows i a t p r
-no-rows i a t p r x e ea et ep er h =
+-- what is left is what the screen x says, where that is the screen
+shows-as : (i : Input) (a : Answer) (t : List ℤ) (p r : List ℕ) (x : Screen) → screen i ≡ x → a ≡ x .answer → t ≡ x .times → p ≡ x .picks → r ≡ x .reasons → Shows i a t p r
+shows-as i a t p r x e ea et ep er =
     record {
       answers = ea ∙ sym (ap (λ (s : Screen). s .answer) e);
       times-are = et ∙ sym (ap (λ (s : Screen). s .times) e);
       picks-are = ep ∙ sym (ap (λ (s : Screen). s .picks) e);
-      list = [];
-      written = subst (λ (l : List Row). Written rowBytes l []) (sym (ap (λ (s : Screen). s .rows) e ∙ er)) refl;
-      reasons-are = h ∙ ap (λ (m : ℕ). replicate m blankByte) (let z : i .room ≡ i .room - 0 = omega arith in z);
+      reasons-are = er ∙ sym (ap (λ (s : Screen). s .reasons) e);
     }
 
 -- a refused call
 pub shows-refused : (i : Input) (k : ℕ) → k ≡ refusal i → (k ≡ 0 → ⊥) → Shows i (Refused k) (replicate (i .times) noTime) (replicate (i .picks) blankByte) (replicate (i .room) blankByte)
 unfolding screen decided cleared
 shows-refused i zero e n = absurd (n refl)
-shows-refused i (suc k) e n = no-rows i (Refused (suc k)) _ _ _ (cleared i (Refused (suc k))) (ap (decided i) (sym e)) refl refl refl refl refl
+shows-refused i (suc k) e n = shows-as i (Refused (suc k)) _ _ _ (cleared i (Refused (suc k))) (ap (decided i) (sym e)) refl refl refl refl
 
 module _ (p : Problem) (laid : Laid p) (a : ℕ) (i : Input) (times picks room : ℕ) (accepts : Accepts i p a times picks room) where
   -- the screen is what the search of the problem by value shows
@@ -56,21 +54,19 @@ module _ (p : Problem) (laid : Laid p) (a : ℕ) (i : Input) (times picks room :
   pub shows-stopped : (s : Place) → Halted p a (search sound (clausesIn p) 0 [] a) s → Shows i (Stopped (s .visits) (rank (clausesIn p) (positions s))) (replicate times noTime) (replicate picks blankByte) (replicate room blankByte)
   unfolding shown cleared
   shows-stopped s h =
-      no-rows i _ _ _ _ (shown i (stopped (h .before) (h .rows) (positions s))) (shown-is (stopped (h .before) (h .rows) (positions s)) (h .is))
+      shows-as i _ _ _ _ (shown i (stopped (h .before) (h .rows) (positions s))) (shown-is (stopped (h .before) (h .rows) (positions s)) (h .is))
       (ap₂ Stopped (h .spent ∙ sym (accepts .allows)) (sym (stop-place sound sound-decides (clausesIn p) a (h .before) (h .rows) (positions s) (h .is) .2)))
       (ap (λ (m : ℕ). replicate m noTime) (sym (accepts .has-times)))
       (ap (λ (m : ℕ). replicate m blankByte) (sym (accepts .has-picks)))
-      refl
       (ap (λ (m : ℕ). replicate m blankByte) (sym (accepts .has-room)))
 
   pub shows-plan : (s : Place) (answer : Answer) (day : List ℤ) (choice : List ℕ) → length (s .picks) ≡ 32 → Found p a (search sound (clausesIn p) 0 [] a) s → Plans p s answer (replicate times noTime) day (replicate picks blankByte) choice → Shows i answer day choice (replicate room blankByte)
   unfolding shown
   shows-plan s answer day choice long h k =
-      no-rows i answer day choice _ (shown i (found (positions s) (h .before) (a - s .visits))) (shown-is (found (positions s) (h .before) (a - s .visits)) (h .is))
+      shows-as i answer day choice _ (shown i (found (positions s) (h .before) (a - s .visits))) (shown-is (found (positions s) (h .before) (a - s .visits)) (h .is))
       (k .says ∙ ap₂ Plan (let z : s .visits ≡ i .allowance - (a - s .visits) = omega (arith, h .spent, accepts .allows) in z) (sym (plan-first sound sound-decides (clausesIn p) a (positions s) (h .before) (a - s .visits) (h .is) .1)))
       (k .day ∙ ap₂ _++_ (ap₂ (λ (n : ℕ) (cs : List Clause). latestOf n (chosen cs (positions s))) (accepts .reads .events) (sym (accepts .reads .clauses))) (drop-replicate (p .n) times noTime ∙ ap₂ (λ (x y : ℕ). replicate (x - y) noTime) (sym (accepts .has-times)) (accepts .reads .events)))
       (k .choice ∙ ap (λ (r : List ℕ). positions s ++ r) (drop-replicate (p .m) picks blankByte ∙ ap₂ (λ (x y : ℕ). replicate (x - y) blankByte) (sym (accepts .has-picks)) (sym (h .whole) ∙ sym (deep p laid (s .picks) (s .k) (h .inside) long))))
-      refl
       (ap (λ (m : ℕ). replicate m blankByte) (sym (accepts .has-room)))
 
   -- none: the rows fit, or they don't
@@ -87,16 +83,11 @@ module _ (p : Problem) (laid : Laid p) (a : ℕ) (i : Input) (times picks room :
     shows-listed : s .rows * rowBytes ≤ length entry → Shows i answer (replicate times noTime) (replicate picks blankByte) exit
     unfolding shown listed
     shows-listed fit =
-        let l = h .kept .lists (omega (arith, many)) in
-        let e : screen i ≡ listed i (i .allowance - (a - s .visits)) (h .before) (h .rows) true = shown-is (closed (h .before) (h .rows) (a - s .visits)) (h .is) ∙ ap (listed i (i .allowance - (a - s .visits)) (h .before) (h .rows)) (le-leb (length (h .rows) * rowBytes) (i .room) (omega (arith, many, accepts .has-room))) in
-        record {
-          answers = k .fits fit .0 ∙ none-same ∙ sym (ap (λ (x : Screen). x .answer) e);
-          times-are = ap (λ (m : ℕ). replicate m noTime) (sym (accepts .has-times)) ∙ sym (ap (λ (x : Screen). x .times) e);
-          picks-are = ap (λ (m : ℕ). replicate m blankByte) (sym (accepts .has-picks)) ∙ sym (ap (λ (x : Screen). x .picks) e);
-          list = l .list;
-          written = subst (λ (r : List Row). Written rowBytes r (l .list)) (sym (ap (λ (x : Screen). x .rows) e)) (l .written);
-          reasons-are = k .fits fit .1 ∙ l .is ∙ ap (λ (m : ℕ). l .list ++ replicate (m - length (l .list)) blankByte) (size ∙ sym (accepts .has-room));
-        }
+        shows-as i answer _ _ exit (listed i (i .allowance - (a - s .visits)) (h .before) (h .rows) true) (shown-is (closed (h .before) (h .rows) (a - s .visits)) (h .is) ∙ ap (listed i (i .allowance - (a - s .visits)) (h .before) (h .rows)) (le-leb (length (h .rows) * rowBytes) (i .room) (omega (arith, many, accepts .has-room))))
+        (k .fits fit .0 ∙ none-same)
+        (ap (λ (m : ℕ). replicate m noTime) (sym (accepts .has-times)))
+        (ap (λ (m : ℕ). replicate m blankByte) (sym (accepts .has-picks)))
+        (k .fits fit .1 ∙ h .kept .lists (omega (arith, many)) ∙ ap (λ (m : ℕ). rowsIn rowBytes m (h .rows)) (size ∙ sym (accepts .has-room)))
       where
         none-same : None (s .visits) (product (clausesIn p)) (s .rows) ≡ None (i .allowance - (a - s .visits)) (h .before) (length (h .rows))
         none-same = ap₂ (λ (v b : ℕ). None v b (s .rows)) visits-same before-same ∙ ap (None (i .allowance - (a - s .visits)) (h .before)) (sym (h .counted))
@@ -104,11 +95,10 @@ module _ (p : Problem) (laid : Laid p) (a : ℕ) (i : Input) (times picks room :
     shows-unlisted : length entry < s .rows * rowBytes → Shows i answer (replicate times noTime) (replicate picks blankByte) exit
     unfolding shown listed cleared
     shows-unlisted over =
-        no-rows i answer _ _ exit (listed i (i .allowance - (a - s .visits)) (h .before) (h .rows) false) (shown-is (closed (h .before) (h .rows) (a - s .visits)) (h .is) ∙ ap (listed i (i .allowance - (a - s .visits)) (h .before) (h .rows)) (lt-leb (length (h .rows) * rowBytes) (i .room) (omega (arith, many, accepts .has-room))))
+        shows-as i answer _ _ exit (listed i (i .allowance - (a - s .visits)) (h .before) (h .rows) false) (shown-is (closed (h .before) (h .rows) (a - s .visits)) (h .is) ∙ ap (listed i (i .allowance - (a - s .visits)) (h .before) (h .rows)) (lt-leb (length (h .rows) * rowBytes) (i .room) (omega (arith, many, accepts .has-room))))
         (k .over over .0 ∙ ap₂ (λ (v b : ℕ). Unlisted v b (s .rows)) visits-same before-same ∙ ap (Unlisted (i .allowance - (a - s .visits)) (h .before)) (sym (h .counted)))
         (ap (λ (m : ℕ). replicate m noTime) (sym (accepts .has-times)))
         (ap (λ (m : ℕ). replicate m blankByte) (sym (accepts .has-picks)))
-        refl
         (k .over over .1 ∙ ap (λ (m : ℕ). replicate m blankByte) (size ∙ sym (accepts .has-room)))
 
     pub shows-none : Shows i answer (replicate times noTime) (replicate picks blankByte) exit

@@ -31,7 +31,7 @@ module _ (p : Problem) (laid : Laid p) (picks : List ℕ) (inside : Inside p pic
       }
 
   -- the times of a sound selection are its latest timetable
-  pub selected-day : (ok : Bool) (times row : List ℕ) → Tests (factsIn p f) (p .n) ok times row → sound (chosen (clausesIn p) (take (p .m) picks)) ≡ true → map (λ (m : ℕ). negℤ (pos m)) (take (p .n) times) ≡ latestOf (p .n) (chosen (clausesIn p) (take (p .m) picks))
+  pub selected-day : (ok : Bool) (times : List ℕ) → Tests (factsIn p f) (p .n) ok times → sound (chosen (clausesIn p) (take (p .m) picks)) ≡ true → map (λ (m : ℕ). negℤ (pos m)) (take (p .n) times) ≡ latestOf (p .n) (chosen (clausesIn p) (take (p .m) picks))
   unfolding latestOf
-  selected-day ok times row t e =
+  selected-day ok times t e =
       ap (map (λ (m : ℕ). negℤ (pos m))) (t .latest (t .decides ∙ ap sound selected-facts ∙ e) ∙ ap (least (p .n)) selected-facts)

@@ -12,7 +12,7 @@ use Rattle.meaning.specs.Limits.{noTime}
 use Rattle.meaning.specs.Screen.{Input, clausesOf, refusal, Shows}
 use Rattle.meaning.specs.Verdicts.{reasonsVerdict, timetableVerdict}
 use Rattle.meaning.proofs.Endings.{IsPlan, IsNone, Kept, Means, Fit, shows-means, shows-fit, plan-or-ones, fault-number, demand-two}
-use Rattle.meaning.proofs.Settled.{CyclesApart, screens-same}
+use Rattle.meaning.proofs.Settled.{screens-same}
 use Rattle.meaning.proofs.Visits.{need}
 use Rattle.meaning.proofs.Witnesses.{none-read, plan-read}
 use Rattle.problem.specs.Reads.{given}
@@ -48,8 +48,8 @@ module _ (n : ℕ) (triples : List ℤ) (counts : List ℕ) (allowance times pic
     pub numbers-fit : Fit lent answer
     numbers-fit = shows-fit lent answer timetable positions reasons result
 
-    -- two results for one input are the same, cycle rows apart
-    pub results-same : (other : Answer) (day : List ℤ) (choice list : List ℕ) → Result other day choice list → (answer ≡ other) × (timetable ≡ day) × (positions ≡ choice) × CyclesApart room reasons list
+    -- two results for one input are the same, in every element
+    pub results-same : (other : Answer) (day : List ℤ) (choice list : List ℕ) → Result other day choice list → (answer ≡ other) × (timetable ≡ day) × (positions ≡ choice) × (reasons ≡ list)
     results-same other day choice list = screens-same lent answer other timetable day positions choice reasons list result
 
   -- 2: "with a list of reasons. A separate reader accepts that list"

@@ -1,19 +1,20 @@
 -- What each way through a visit and a step makes of the place and the reasons. Assumes nothing.
 use mathlib.Core.Path.{_≡_, refl, sym, ap, _∙_, subst}
-use mathlib.Core.Bool.{Bool, true, false, cond, true≢false, false≢true}
-use mathlib.Core.Option.{Option, some, none, Option·map}
+use mathlib.Core.Bool.{true, false, true≢false, false≢true}
 use mathlib.Core.List.{List, [], _∷_, map}
 use Prim.Native.Nat.{ℕ, suc, _+_, _-_, _<_, _≤_}
 use native.Mathlib.Omega.{arith}
-use lib.ListN.{length, getD, set, replicate, length-map}
-use Rattle.laws.proofs.Tests.{never}
+use lib.ListN.{length, set, replicate, length-map}
 use Rattle.meaning.specs.Limits.{rowBytes, blankByte, mostAllowance, onwardMark, deadMark}
-use Rattle.meaning.specs.Problem.{Alternative, Clause}
+use Rattle.meaning.specs.Problem.{Alternative}
 use Rattle.meaning.specs.Plain.{product}
 use Rattle.meaning.specs.Decision.{sound}
 use Rattle.meaning.specs.Search.{facts, past, next, Row, mark, cycle, Outcome, later, dead, firstDead, search, resume}
-use Rattle.meaning.specs.Reasons.{markRow, Writes}
+use Rattle.meaning.specs.Reasons.{markRow}
+use Rattle.meaning.specs.Listing.{rowOf, listing, rowsIn}
 use Rattle.meaning.proofs.Carry.{later-none}
+use Rattle.meaning.proofs.Unsound.{dead-at}
+use Rattle.meaning.proofs.Listing.{row-length}
 use Rattle.meaning.proofs.Step.{onward, resume-none}
 use Rattle.problem.specs.declared.Problem.{Problem}
 use Rattle.problem.specs.Arcs.{at, arc, Known}
@@ -36,23 +37,14 @@ use Rattle.search.proofs.Keeping.{put-length, keeps-row, keeps-then}
 use Rattle.search.proofs.Steps.{stands, counted-on, closes, unsound-is, stops-is, found-is, dead-is, opens}
 
 -- ---- the clause that is found dead is dead
-dead-at : (fs : List Alternative) (cs : List Clause) (d : ℕ) → firstDead sound fs cs ≡ some d → dead sound fs (getD cs d []) ≡ true
-unfolding firstDead
-dead-at fs [] d e = absurd (never (cc))
-dead-at fs (c ∷ cs) d e = go (dead sound fs c) refl (firstDead sound fs cs) refl e (λ m x. dead-at fs cs m x)
-  where
-    go : (b : Bool) → dead sound fs c ≡ b → (o : Option ℕ) → firstDead sound fs cs ≡ o → cond b (some 0) (Option·map suc o) ≡ some d → ((m : ℕ) → firstDead sound fs cs ≡ some m → dead sound fs (getD cs m []) ≡ true) → dead sound fs (getD (c ∷ cs) d []) ≡ true
-    go true y o z x k = subst (λ (i : ℕ). dead sound fs (getD (c ∷ cs) i []) ≡ true) (let q : 0 ≡ d = cc in q) y
-    go false y none z x k = absurd (never (cc))
-    go false y (some m) z x k = subst (λ (i : ℕ). dead sound fs (getD (c ∷ cs) i []) ≡ true) (let q : suc m ≡ d = cc in q) (k m z)
-
 pub found-dead : (p : Problem) (f : Facts) (k d : ℕ) → DeadFrom p f k d → d < p .m → dead sound (factsIn p f) (clauseOf p d) ≡ true
 found-dead p f k d h l =
     sym (ap (dead sound (factsIn p f)) (clause-at p k (p .m - k) (d - k) (omega (arith, h .from)) ∙ ap (clauseOf p) (let e : k + (d - k) ≡ d = omega (arith, h .from) in e)))
-    ∙ dead-at (factsIn p f) (clausesFrom p k (p .m - k)) (d - k) (h .some-dead l)
+    ∙ dead-at sound (factsIn p f) (clausesFrom p k (p .m - k)) (d - k) (h .some-dead l)
 
 mark-kept : (bytes : List ℕ) (count b : ℕ) → Keeps bytes (putRow bytes count (markRow rowBytes b)) count (mark b ∷ [])
-mark-kept bytes count b = keeps-row bytes count (mark b) (markRow rowBytes b) refl
+unfolding rowOf
+mark-kept bytes count b = keeps-row bytes count (mark b)
 
 mark-length : (bytes : List ℕ) (count b : ℕ) → length (putRow bytes count (markRow rowBytes b)) ≡ length bytes
 mark-length bytes count b = put-length bytes count (markRow rowBytes b) (unfold markRow in refl)
@@ -94,12 +86,15 @@ module _ (p : Problem) (laid : Laid p) (s : Place) (long : length (s .picks) ≡
 
 -- ---- a step
 module _ (p : Problem) (laid : Laid p) (a : ℕ) (s : Place) (long : length (s .picks) ≡ 32) (fine : Fine p a s) (f : Facts) (same : factsIn p f ≡ facts (clausesIn p) (positions s) []) (entry : List ℕ) where
-  pub steps-unsound : (row : List ℕ) (w : Went) (exit : List ℕ) → exit ≡ putRow entry (s .rows) row → sound (factsIn p f) ≡ false → Writes rowBytes (cycle (factsIn p f)) row → Leaves p (counted-on s (s .visits) (s .rows + 1)) w → Steps p a s entry w exit
-  steps-unsound row w exit is e writes leaves =
+  pub steps-unsound : (w : Went) (exit : List ℕ) → exit ≡ putRow entry (s .rows) (rowOf rowBytes (cycle (factsIn p f))) → sound (factsIn p f) ≡ false → Leaves p (counted-on s (s .visits) (s .rows + 1)) w → Steps p a s entry w exit
+  steps-unsound w exit is e leaves =
       record {
-        sized = ap length is ∙ put-length entry (s .rows) row (writes .0);
-        means = λ o here. closes p a s entry exit w (s .visits) (product (past (clausesIn p) (positions s))) (cycle (factsIn p f) ∷ []) fine leaves (fine .spent) (omega arith) (omega arith) (unsound-is p laid a s long fine (sym (ap sound same) ∙ e) ∙ ap (λ (x : List Alternative). later (product (past (clausesIn p) (positions s))) (cycle x ∷ []) (onward sound (clausesIn p) 0 (next (clausesIn p) (positions s)) [] (a - s .visits))) (sym same)) (subst (λ (x : List ℕ). Keeps entry x (s .rows) (cycle (factsIn p f) ∷ [])) (sym is) (keeps-row entry (s .rows) (cycle (factsIn p f)) row writes)) (ap length is ∙ put-length entry (s .rows) row (writes .0)) o here;
+        sized = size;
+        means = λ o here. closes p a s entry exit w (s .visits) (product (past (clausesIn p) (positions s))) (cycle (factsIn p f) ∷ []) fine leaves (fine .spent) (omega arith) (omega arith) (unsound-is p laid a s long fine (sym (ap sound same) ∙ e) ∙ ap (λ (x : List Alternative). later (product (past (clausesIn p) (positions s))) (cycle x ∷ []) (onward sound (clausesIn p) 0 (next (clausesIn p) (positions s)) [] (a - s .visits))) (sym same)) (subst (λ (x : List ℕ). Keeps entry x (s .rows) (cycle (factsIn p f) ∷ [])) (sym is) (keeps-row entry (s .rows) (cycle (factsIn p f)))) size o here;
       }
+    where
+      size : length exit ≡ length entry
+      size = ap length is ∙ put-length entry (s .rows) (rowOf rowBytes (cycle (factsIn p f))) (row-length rowBytes (omega arith) (cycle (factsIn p f)))
 
   pub steps-stop : sound (factsIn p f) ≡ true → a ≤ s .visits → Steps p a s entry (record { turn = Stop; place = s }) entry
   steps-stop e l = record { sized = refl; means = λ o here. stops-is p laid a s long fine (sym (ap sound same) ∙ e) (omega (arith, fine .spent)) o entry here }
@@ -125,7 +120,7 @@ module _ (p : Problem) (laid : Laid p) (a : ℕ) (picks : List ℕ) where
         rows = [];
         is = sym (later-none _ ∙ ap (resume sound (clausesIn p) 0 [] []) (let z : a - 0 ≡ a = omega arith in z) ∙ resume-none sound (clausesIn p) 0 [] a);
         counted = refl;
-        kept = record { size = refl; lists = λ l. record { list = []; written = refl; is = e ∙ ap (λ (n : ℕ). replicate n blankByte) (let z : length reasons ≡ length reasons - 0 = omega arith in z) } };
+        kept = record { size = refl; lists = λ l. unfold rowsIn listing in (e ∙ ap (λ (n : ℕ). replicate n blankByte) (let z : length reasons ≡ length reasons - 0 = omega arith in z)) };
       }
 
 -- ---- by the turn of a step

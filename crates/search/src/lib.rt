@@ -6,6 +6,7 @@ mod standing;
 use held::Facts;
 use listing::mark_row;
 use listing::put_cycles;
+use listing::put_reason;
 use listing::put_row;
 use places::advance;
 pub use places::rank_of;
@@ -130,8 +131,7 @@ pub fn step(p: Problem, allowance: u64, s: Place, reasons: &mut [u8]) -> Went
     let f = facts_of(p, picks, k);
     let t = held::tested(p, f);
     if !t.ok {
-        let row = t.row;
-        put_row(reasons, s.rows, row);
+        put_reason(p, f, reasons, s.rows);
         return leave(
             p,
             Place {

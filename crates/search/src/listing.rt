@@ -3,15 +3,17 @@ use held::Facts;
 use problem::Problem;
 use problem::ROW;
 ghost use mathlib.Core.Path.{_≡_};
-ghost use mathlib.Core.Bool.{true};
+ghost use mathlib.Core.Bool.{true, false};
 ghost use mathlib.Core.List.{_∷_, map};
 ghost use Prim.Native.Nat.{_+_, _<_, _≤_};
 ghost use Rattle.meaning.specs.Limits.{rowBytes};
 ghost use Rattle.meaning.specs.Decision.{sound};
 ghost use Rattle.meaning.specs.Search.{dead, cycle};
 ghost use Rattle.meaning.specs.Reasons.{markRow};
-ghost use Rattle.problem.specs.Laid.{Laid, sizeOf, clauseOf};
-ghost use Rattle.held.specs.Held.{factsIn, Ready};
+ghost use Rattle.meaning.specs.Listing.{rowOf};
+ghost use Rattle.problem.specs.Laid.{Laid, arcs, sizeOf, clauseOf};
+ghost use Rattle.facts.specs.Tests.{places, Within};
+ghost use Rattle.held.specs.Held.{held, factsIn, Ready};
 ghost use Rattle.search.specs.Listing.{putRow, Keeps};
 ghost use Rattle.search.specs.Steps.{mostRows};
 
@@ -38,6 +40,17 @@ pub fn put_row(reasons: &mut [u8], rows: usize, row: [u8; ROW])
     }
 }
 
+// Row number `rows` of the list, where there is room for it: the shortest reason of the facts f, which is worked out only there.
+pub fn put_reason(p: Problem, f: Facts, reasons: &mut [u8], rows: usize)
+    requires { ⌜ Laid p × (f .at ≤ places) × Within (arcs p) (held f) (p .n) × (sound (factsIn p f) ≡ false) × (rows ≤ mostRows) ⌝ }
+    ensures { λ _. ⌜ now (reasons .exit) ≡ putRow (now (reasons .entry)) rows (rowOf rowBytes (cycle (factsIn p f))) ⌝ }
+{
+    if rows * ROW + ROW <= reasons.len() {
+        let row = held::reason(p, f);
+        put_row(reasons, rows, row);
+    }
+}
+
 // The cycle rows of the dead clause d, from row number `rows` on; the number of the row after them.
 pub fn put_cycles(p: Problem, f: Facts, d: usize, reasons: &mut [u8], rows: usize) -> usize
     requires { ⌜ Laid p × Ready p f × (d < p .m) × (dead sound (factsIn p f) (clauseOf p d) ≡ true) × (rows + 4 ≤ mostRows) ⌝ }
@@ -48,9 +61,8 @@ pub fn put_cycles(p: Problem, f: Facts, d: usize, reasons: &mut [u8], rows: usiz
     let mut j = starts[d];
     let mut k = rows;
     while j < end {
-        let t = held::tested_with(p, f, j);
-        let row = t.row;
-        put_row(reasons, k, row);
+        let g = held::put(f, j);
+        put_reason(p, g, reasons, k);
         k += 1;
         j += 1;
     }

@@ -15,7 +15,7 @@ test-from-requires c κs =
 returns : tie.Need-returns
 returns c =
     let s = c .before .before .before .before .before in
-    joined _ _ (s .args .n) (s .pre .0) (s .pre .1) (s .pre .2) (c .test-from .result .times) (c .test-from .result .row) (search needs) _ (c .test-from .ensures)
+    joined _ _ (s .args .n) (s .pre .0) (s .pre .1) (s .pre .2) (c .test-from .result .times) (search needs) _ (c .test-from .ensures)
 
 pub test-spec : {M : Type 1} → statement M
 test-spec = tie.close (tie.spec test-from-requires returns)

@@ -34,7 +34,7 @@ returns : tie.Need-returns
 returns c =
     let s = c .before .before .before .before .before .before in
     let a = s .args in
-    tests-stored (a .buffer) (a .at) (a .j) (places - (a .at - 1)) (s .pre .2) (omega arith) (omega arith) (net (a .xs .now) (a .ys .now) (a .bs .now)) (a .n) (c .test .result .ok) (c .test .result .times) (c .test .result .row) (c .test .ensures)
+    tests-stored (a .buffer) (a .at) (a .j) (places - (a .at - 1)) (s .pre .2) (omega arith) (omega arith) (net (a .xs .now) (a .ys .now) (a .bs .now)) (a .n) (c .test .result .ok) (c .test .result .times) (c .test .ensures)
 
 pub test-with-spec : {M : Type 1} → statement M
 test-with-spec =

@@ -1,17 +1,14 @@
 -- `held::tested` meets its contract: what the buffer holds is lent whole. Assumes nothing.
 use mathlib.Core.Path.{_≡_}
-use mathlib.Core.List.{List}
-use Prim.Native.Nat.{ℕ, _-_, _≤_}
+use Prim.Native.Nat.{_≤_}
 use native.Mathlib.Omega.{arith}
-use lib.ListN.{length, drop, length-drop}
+use lib.ListN.{length}
 use lib.Seq.{take-all}
 use Rattle.facts.specs.Tests.{places}
 use borrow.Author.Needs.{needs}
+use Rattle.held.proofs.Lending.{whole}
 use Rattle.held.proofs.tested.Statement.{statement}
 use Rattle.held.proofs.tested.Tie as tie
-
-whole : (l : List ℕ) (at : ℕ) → length l ≡ places → length (drop at l) ≤ places - at
-whole l at h = omega (arith, length-drop at l)
 
 slice-aggregate-test : tie.Need-slice-aggregate-test
 slice-aggregate-test c = search needs

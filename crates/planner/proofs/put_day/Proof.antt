@@ -61,7 +61,7 @@ returns c =
     let times = t .tested .result .times in
     c .before .put-negated .ensures
     ∙ ap (λ (d : ℕ). map (λ (m : ℕ). negℤ (pos m)) (take (s .args .p .n) times) ++ drop d (s .args .timetable .now)) (n-times t)
-    ∙ ap (λ (d : List ℤ). d ++ drop (s .args .p .n) (s .args .timetable .now)) (selected-day (s .args .p) (s .pre .0) (s .args .picks) (s .pre .1) (long-picks s) (f .chosen-of .result) (f .chosen-of .ensures .0) (t .tested .result .ok) times (t .tested .result .row) (t .tested .ensures) (s .pre .3))
+    ∙ ap (λ (d : List ℤ). d ++ drop (s .args .p .n) (s .args .timetable .now)) (selected-day (s .args .p) (s .pre .0) (s .args .picks) (s .pre .1) (long-picks s) (f .chosen-of .result) (f .chosen-of .ensures .0) (t .tested .result .ok) times (t .tested .ensures) (s .pre .3))
 
 pub put-day-spec : {M : Type 1} → statement M
 put-day-spec =

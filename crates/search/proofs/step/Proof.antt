@@ -39,11 +39,14 @@ tested-requires c κs =
     let s = c .before .before .before in
     (s .pre .0, own-ready c)
 
-put-row-requires : tie.Need-put-row-requires
-put-row-requires c κs = search needs
+put-reason-requires : tie.Need-put-reason-requires
+put-reason-requires c κs =
+    let s = c .before .before .before .before .before .before .before in
+    let f = own-ready (c .before .before .before .before) in
+    (s .pre .0, f .fits, f .within, sym (c .before .before .before .tested .ensures .decides) ∙ not-true _ (c .before .if1 .taken), omega (arith, s .pre .1 .few))
 
-add-t14 : tie.Need-add-t14
-add-t14 c = search needs
+add-t13 : tie.Need-add-t13
+add-t13 c = search needs
 
 leave-requires : tie.Need-leave-requires
 leave-requires c κs = search needs
@@ -53,10 +56,10 @@ same-length c = search needs
 
 returns : tie.Need-returns
 returns c =
-    let s = c .before .before .before .before .before .before .before .before .before .before .before .before .before in
-    let t = c .before .before .before .before .before .before .before .before .before .tested in
-    let f = c .before .before .before .before .before .before .before .before .before .before .facts-of .result in
-    steps-unsound (s .args .p) (s .pre .0) (s .args .allowance) (s .args .s) (long-picks s) (s .pre .1) f (own (c .before .before .before .before .before .before .before .before .before .before)) (s .args .reasons .now) (t .result .row) (c .leave .result) (c .before .before .before .before .put-row .last .0) (c .before .before .before .before .put-row .ensures) (sym (t .ensures .decides) ∙ not-true _ (c .before .before .before .before .before .before .before .if1 .taken)) (t .ensures .names (not-true _ (c .before .before .before .before .before .before .before .if1 .taken))) (c .leave .ensures)
+    let s = c .before .before .before .before .before .before .before .before .before .before .before .before in
+    let t = c .before .before .before .before .before .before .before .before .tested in
+    let f = c .before .before .before .before .before .before .before .before .before .facts-of .result in
+    steps-unsound (s .args .p) (s .pre .0) (s .args .allowance) (s .args .s) (long-picks s) (s .pre .1) f (own (c .before .before .before .before .before .before .before .before .before)) (s .args .reasons .now) (c .leave .result) (c .before .before .before .before .put-reason .last .1 .1 .0) (c .before .before .before .before .put-reason .ensures) (sym (t .ensures .decides) ∙ not-true _ (c .before .before .before .before .before .before .if1 .taken)) (c .leave .ensures)
 
 returns-2 : tie.Need-returns-2
 returns-2 c =
@@ -65,8 +68,8 @@ returns-2 c =
     let f = c .before .before .before .before .before .facts-of .result in
     steps-stop (s .args .p) (s .pre .0) (s .args .allowance) (s .args .s) (long-picks s) (s .pre .1) f (own (c .before .before .before .before .before)) (s .args .reasons .now) (sym (t .ensures .decides) ∙ not-false _ (c .before .before .if1 .left)) (omega arith)
 
-add-t18 : tie.Need-add-t18
-add-t18 c = search needs
+add-t17 : tie.Need-add-t17
+add-t17 c = search needs
 
 returns-3 : tie.Need-returns-3
 returns-3 c =
@@ -98,13 +101,13 @@ step-spec =
     (tie.spec
     facts-of-requires
     tested-requires
-    put-row-requires
-    add-t14
+    put-reason-requires
+    add-t13
     leave-requires
     same-length
     returns
     returns-2
-    add-t18
+    add-t17
     returns-3
     visit-requires
     same-length-2

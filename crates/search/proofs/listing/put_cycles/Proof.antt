@@ -1,19 +1,23 @@
 -- `search::listing::put_cycles` meets its contract: the cycle rows of the alternatives passed are kept, and those to come are dead. Assumes nothing.
 use mathlib.Core.Path.{_≡_, refl, sym, ap, _∙_, subst}
-use mathlib.Core.Bool.{true}
+use mathlib.Core.Bool.{true, false}
 use mathlib.Core.List.{List, _∷_, map}
 use Prim.Native.Nat.{ℕ, _+_, _-_, _≤_}
 use native.Mathlib.Omega.{arith}
 use native.Mathlib.Numerals.{add-one}
 use lib.ListN.{length}
+use Rattle.meaning.specs.Limits.{rowBytes}
 use Rattle.meaning.specs.Problem.{Alternative}
 use Rattle.meaning.specs.Decision.{sound}
 use Rattle.meaning.specs.Search.{cycle, dead}
-use Rattle.problem.specs.Arcs.{Net, at, arcsFrom}
+use Rattle.meaning.specs.Listing.{rowOf}
+use Rattle.meaning.proofs.Listing.{row-length}
+use Rattle.problem.specs.Arcs.{Net, at, arc, arcsFrom}
 use Rattle.problem.specs.Laid.{arcs, sizeOf}
 use Rattle.problem.proofs.Laying.{clause-last, clause-ends, size-most}
-use Rattle.held.specs.Held.{factsIn}
-use Rattle.search.specs.Listing.{Keeps}
+use Rattle.problem.proofs.Knowing.{known-more}
+use Rattle.held.specs.Held.{held, factsIn}
+use Rattle.search.specs.Listing.{putRow, Keeps}
 use Rattle.search.proofs.Dead.{dead-all}
 use Rattle.search.proofs.Keeping.{keeps-none, keep-cycle, put-length}
 use Rattle.search.proofs.listing.put_cycles.Statement.{statement}
@@ -52,25 +56,32 @@ loop-holds c =
       ap (λ (e : ℕ). dead sound (factsIn (s .args .p) (s .args .f)) (arcsFrom (arcs (s .args .p)) (at (s .args .p .starts) (s .args .d)) (at (s .args .p .starts) e - at (s .args .p .starts) (s .args .d)))) (add-one (s .args .d)) ∙ s .pre .3,
     )
 
-tested-with-requires : tie.Need-tested-with-requires Inv-loop μ-loop
-tested-with-requires c κs =
-    let s = c .before .before .before .before in
-    let last : at (s .args .p .starts) (s .args .d + 1) ≡ at (s .args .p .starts) (s .args .d) + sizeOf (s .args .p) (s .args .d) = ap (at (s .args .p .starts)) (add-one _) ∙ clause-last (s .args .p) (s .pre .0) (s .args .d) (s .pre .2) in
-    let most = size-most (s .args .p) (s .pre .0) (s .args .d) (s .pre .2) in
-    let ends = clause-ends (s .args .p) (s .pre .0) (s .args .d) (s .pre .2) in
-    (s .pre .0, s .pre .1, s .pre .0 .alternative (c .before .loop .j) (omega arith))
+put-requires : tie.Need-put-requires Inv-loop μ-loop
+put-requires c κs = let s = c .before .before .before .before in (s .pre .1 .free, s .pre .1 .fits)
 
-put-row-requires : tie.Need-put-row-requires Inv-loop μ-loop
-put-row-requires c κs =
-    let s = c .before .before .before .before .before .before .before in
+-- this alternative, and those after it, are unsound with the facts
+both : (c : tie.In-loop Inv-loop μ-loop) → (sound (arc (arcs (c .before .before .before .before .args .p)) (c .before .loop .j) ∷ factsIn (c .before .before .before .before .args .p) (c .before .before .before .before .args .f)) ≡ false) × (dead sound (factsIn (c .before .before .before .before .args .p) (c .before .before .before .before .args .f)) (arcsFrom (arcs (c .before .before .before .before .args .p)) (c .before .loop .j + 1) (at (c .before .before .before .before .args .p .starts) (c .before .before .before .before .args .d + 1) - (c .before .loop .j + 1))) ≡ true)
+both c =
+    let s = c .before .before .before .before in
+    dead-all (factsIn (s .args .p) (s .args .f)) (arcs (s .args .p)) (c .before .loop .j) (at (s .args .p .starts) (s .args .d + 1)) (c .loop-test .taken) (c .before .loop .inv .5)
+
+put-reason-requires : tie.Need-put-reason-requires Inv-loop μ-loop
+put-reason-requires c κs =
+    let s = c .before .before .before .before .before .before in
     let last : at (s .args .p .starts) (s .args .d + 1) ≡ at (s .args .p .starts) (s .args .d) + sizeOf (s .args .p) (s .args .d) = ap (at (s .args .p .starts)) (add-one _) ∙ clause-last (s .args .p) (s .pre .0) (s .args .d) (s .pre .2) in
     let most = size-most (s .args .p) (s .pre .0) (s .args .d) (s .pre .2) in
     let ends = clause-ends (s .args .p) (s .pre .0) (s .args .d) (s .pre .2) in
-    omega (arith, s .pre .4)
+    let g = c .before .put .ensures in (
+      s .pre .0,
+      omega (arith, g .1, s .pre .1 .fits),
+      rw (g .0) (record { known = known-more (arcs (s .args .p)) (s .args .p .n) (c .before .before .before .loop .j) (held (s .args .f)) (s .pre .0 .alternative (c .before .before .before .loop .j) (omega arith)) (s .pre .1 .within .known); few = s .pre .1 .within .few }),
+      rw (g .0) (both (c .before .before) .0),
+      omega (arith, s .pre .4),
+    )
 
 add-k : tie.Need-add-k Inv-loop μ-loop
 add-k c =
-    let s = c .before .before .before .before .before .before .before .before .before .before in
+    let s = c .before .before .before .before .before .before .before .before .before in
     let last : at (s .args .p .starts) (s .args .d + 1) ≡ at (s .args .p .starts) (s .args .d) + sizeOf (s .args .p) (s .args .d) = ap (at (s .args .p .starts)) (add-one _) ∙ clause-last (s .args .p) (s .pre .0) (s .args .d) (s .pre .2) in
     let most = size-most (s .args .p) (s .pre .0) (s .args .d) (s .pre .2) in
     let ends = clause-ends (s .args .p) (s .pre .0) (s .args .d) (s .pre .2) in
@@ -78,7 +89,7 @@ add-k c =
 
 add-j : tie.Need-add-j Inv-loop μ-loop
 add-j c =
-    let s = c .before .before .before .before .before .before .before .before .before .before in
+    let s = c .before .before .before .before .before .before .before .before .before in
     let last : at (s .args .p .starts) (s .args .d + 1) ≡ at (s .args .p .starts) (s .args .d) + sizeOf (s .args .p) (s .args .d) = ap (at (s .args .p .starts)) (add-one _) ∙ clause-last (s .args .p) (s .pre .0) (s .args .d) (s .pre .2) in
     let most = size-most (s .args .p) (s .pre .0) (s .args .d) (s .pre .2) in
     let ends = clause-ends (s .args .p) (s .pre .0) (s .args .d) (s .pre .2) in
@@ -89,17 +100,16 @@ loop-less c = omega arith
 
 loop-again : tie.Need-loop-again Inv-loop μ-loop
 loop-again c =
-    let s = c .before .before .before .before .before .before .before .before .before .before in
-    let l = c .before .before .before .before .before .before .before .loop in
-    let both = dead-all (factsIn (s .args .p) (s .args .f)) (arcs (s .args .p)) (l .j) (at (s .args .p .starts) (s .args .d + 1)) (c .before .before .before .before .before .before .loop-test .taken) (l .inv .5) in
-    let t = c .before .before .before .before .before .tested-with in
-    let w = t .ensures .names (t .ensures .decides ∙ both .0) in (
-      subst (λ (r : List ℕ). Keeps (s .args .reasons .now) r (s .args .rows) (map (λ a. cycle (a ∷ factsIn (s .args .p) (s .args .f))) (arcsFrom (arcs (s .args .p)) (at (s .args .p .starts) (s .args .d)) (l .j + 1 - at (s .args .p .starts) (s .args .d))))) (sym (c .before .before .put-row .ensures)) (keep-cycle (s .args .reasons .now) (l .reasons) (s .args .rows) (l .k) (at (s .args .p .starts) (s .args .d)) (l .j) (arcs (s .args .p)) (factsIn (s .args .p) (s .args .f)) (t .result .row) (l .inv .0) (l .inv .1) (l .inv .2) (l .inv .3) w),
-      ap length (c .before .before .put-row .ensures) ∙ put-length (l .reasons) (l .k) (t .result .row) (w .0) ∙ l .inv .1,
+    let s = c .before .before .before .before .before .before .before .before .before in
+    let l = c .before .before .before .before .before .before .loop in
+    let x = cycle (arc (arcs (s .args .p)) (l .j) ∷ factsIn (s .args .p) (s .args .f)) in
+    let put : c .before .before .put-reason .last .1 .1 .0 ≡ putRow (l .reasons) (l .k) (rowOf rowBytes x) = rw (c .before .before .before .before .put .ensures .0) at (c .before .before .put-reason .ensures) in (
+      subst (λ (r : List ℕ). Keeps (s .args .reasons .now) r (s .args .rows) (map (λ a. cycle (a ∷ factsIn (s .args .p) (s .args .f))) (arcsFrom (arcs (s .args .p)) (at (s .args .p .starts) (s .args .d)) (l .j + 1 - at (s .args .p .starts) (s .args .d))))) (sym put) (keep-cycle (s .args .reasons .now) (l .reasons) (s .args .rows) (l .k) (at (s .args .p .starts) (s .args .d)) (l .j) (arcs (s .args .p)) (factsIn (s .args .p) (s .args .f)) (l .inv .0) (l .inv .1) (l .inv .2) (l .inv .3)),
+      ap length put ∙ put-length (l .reasons) (l .k) (rowOf rowBytes x) (row-length rowBytes (omega arith) x) ∙ l .inv .1,
       omega arith,
       omega arith,
       omega arith,
-      both .1,
+      both (c .before .before .before .before .before) .1,
     )
 
 same-length : tie.Need-same-length Inv-loop μ-loop
@@ -122,8 +132,8 @@ put-cycles-spec =
     array-read-end
     array-read-j
     loop-holds
-    tested-with-requires
-    put-row-requires
+    put-requires
+    put-reason-requires
     add-k
     add-j
     loop-less

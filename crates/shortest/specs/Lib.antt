@@ -1,0 +1,4 @@
+pub mod Paths
+pub mod Heights
+pub mod Leading
+pub mod Best

@@ -16,6 +16,7 @@ use Rattle.problem.specs.Arcs.{Net, at, arc, arcsFrom}
 use Rattle.problem.specs.Laid.{arcs, sizeOf}
 use Rattle.problem.proofs.Laying.{clause-last, clause-ends, size-most}
 use Rattle.problem.proofs.Knowing.{known-more}
+use Rattle.facts.specs.Tests.{Within}
 use Rattle.held.specs.Held.{held, factsIn}
 use Rattle.search.specs.Listing.{putRow, Keeps}
 use Rattle.search.proofs.Dead.{dead-all}
@@ -74,8 +75,8 @@ put-reason-requires c κs =
     let g = c .before .put .ensures in (
       s .pre .0,
       omega (arith, g .1, s .pre .1 .fits),
-      rw (g .0) (record { known = known-more (arcs (s .args .p)) (s .args .p .n) (c .before .before .before .loop .j) (held (s .args .f)) (s .pre .0 .alternative (c .before .before .before .loop .j) (omega arith)) (s .pre .1 .within .known); few = s .pre .1 .within .few }),
-      rw (g .0) (both (c .before .before) .0),
+      subst (λ (L : List ℕ). Within (arcs (s .args .p)) L (s .args .p .n)) (sym (g .0)) (record { known = known-more (arcs (s .args .p)) (s .args .p .n) (c .before .before .before .loop .j) (held (s .args .f)) (s .pre .0 .alternative (c .before .before .before .loop .j) (omega arith)) (s .pre .1 .within .known); few = s .pre .1 .within .few }),
+      subst (λ (L : List ℕ). sound (map (arc (arcs (s .args .p))) L) ≡ false) (sym (g .0)) (both (c .before .before) .0),
       omega (arith, s .pre .4),
     )
 
@@ -103,7 +104,7 @@ loop-again c =
     let s = c .before .before .before .before .before .before .before .before .before in
     let l = c .before .before .before .before .before .before .loop in
     let x = cycle (arc (arcs (s .args .p)) (l .j) ∷ factsIn (s .args .p) (s .args .f)) in
-    let put : c .before .before .put-reason .last .1 .1 .0 ≡ putRow (l .reasons) (l .k) (rowOf rowBytes x) = rw (c .before .before .before .before .put .ensures .0) at (c .before .before .put-reason .ensures) in (
+    let put : c .before .before .put-reason .last .1 .1 .0 ≡ putRow (l .reasons) (l .k) (rowOf rowBytes x) = c .before .before .put-reason .ensures ∙ ap (λ (L : List ℕ). putRow (l .reasons) (l .k) (rowOf rowBytes (cycle (map (arc (arcs (s .args .p))) L)))) (c .before .before .before .before .put .ensures .0) in (
       subst (λ (r : List ℕ). Keeps (s .args .reasons .now) r (s .args .rows) (map (λ a. cycle (a ∷ factsIn (s .args .p) (s .args .f))) (arcsFrom (arcs (s .args .p)) (at (s .args .p .starts) (s .args .d)) (l .j + 1 - at (s .args .p .starts) (s .args .d))))) (sym put) (keep-cycle (s .args .reasons .now) (l .reasons) (s .args .rows) (l .k) (at (s .args .p .starts) (s .args .d)) (l .j) (arcs (s .args .p)) (factsIn (s .args .p) (s .args .f)) (l .inv .0) (l .inv .1) (l .inv .2) (l .inv .3)),
       ap length put ∙ put-length (l .reasons) (l .k) (rowOf rowBytes x) (row-length rowBytes (omega arith) x) ∙ l .inv .1,
       omega arith,

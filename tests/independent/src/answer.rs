@@ -28,7 +28,6 @@ pub struct Screen {
     pub answer: Answer,
     pub timetable: Vec<i64>,
     pub picks: Vec<u8>,
-    /// All 255 until `list` writes the rows.
     pub reasons: Vec<u8>,
     /// The rows that stand in the reasons.
     pub rows: Vec<Row>,
@@ -109,13 +108,14 @@ fn told(outcome: &Outcome, room: usize) -> Answer {
 }
 
 impl Screen {
-    /// Writes over the cleared memory what the outcome calls for; the rows wait for `list`.
+    /// Writes over the cleared memory what the outcome calls for.
     fn fill(&mut self, problem: &Problem, outcome: Outcome) {
         if let Ending::Plan(picks) = &outcome.ending {
             self.write_plan(problem, picks);
         }
         if let Answer::NoPlan { .. } = self.answer {
             self.rows = outcome.listed;
+            self.write_rows(problem);
         }
     }
 
@@ -127,16 +127,10 @@ impl Screen {
         }
     }
 
-    /// Writes the rows into the reasons, with cycles of this program's own choice.
-    pub fn list(&mut self, problem: &Problem) {
-        for (place, row) in self.rows.iter().enumerate() {
-            self.reasons[place * ROW..(place + 1) * ROW].copy_from_slice(&reasons::row_bytes(problem, *row));
+    fn write_rows(&mut self, problem: &Problem) {
+        for (bytes, row) in self.reasons.chunks_mut(ROW).zip(&self.rows) {
+            bytes.copy_from_slice(&reasons::row_bytes(problem, *row));
         }
-    }
-
-    /// The reply's text up to where the reasons begin.
-    pub fn front(&self) -> String {
-        format!("{} | {} | {} | ", self.answer, Spaced(&self.timetable), Spaced(&self.picks))
     }
 }
 
@@ -166,7 +160,9 @@ impl Display for Reply {
     fn fmt(&self, f: &mut fmt::Formatter) -> fmt::Result {
         match self {
             Reply::Malformed => f.write_str("malformed"),
-            Reply::Screen(screen) => write!(f, "{}{}", screen.front(), Spaced(&screen.reasons)),
+            Reply::Screen(Screen { answer, timetable, picks, reasons, .. }) => {
+                write!(f, "{answer} | {} | {} | {}", Spaced(timetable), Spaced(picks), Spaced(reasons))
+            }
             Reply::Judged(Ok(yes)) => f.write_str(if *yes { "yes" } else { "no" }),
             Reply::Bound(Ok(bound)) => write!(f, "bound {bound}"),
             Reply::Judged(Err(number)) | Reply::Bound(Err(number)) => write!(f, "refused {number}"),

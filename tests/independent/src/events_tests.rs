@@ -1,12 +1,11 @@
 //! The twenty-four events of 02, A4, with its numbers, written by hand as lines and replies.
 
 use crate::answer::{answer, Answer, Reply};
-use crate::days_tests::{fill, list, says};
+use crate::days_tests::{fill, list, listed, says};
 use crate::dialogue::{Asked, Request, Spaced};
 use crate::facts::Distances;
 use crate::problem::Alternative;
 use crate::requests::days::lowest;
-use crate::serve::reply;
 
 /// The parts after N of a problem whose clauses have one alternative each.
 fn alone(triples: &[[i64; 3]]) -> String {
@@ -73,23 +72,33 @@ fn a_ring() {
     );
     let unlisted = format!("unlisted 24 1 25 | {} | {} | {}", repeated(24, 1), fill(24), fill(599));
     says(&format!("plan 24 1000 24 24 599 {below_0}"), &unlisted);
-    let got = reply(format!("plan 24 1000 24 24 600 {below_0}").as_bytes());
-    let front = format!("none 24 1 25 | {} | {} | ", repeated(24, 1), fill(24));
-    let listed = got.strip_prefix(&front).expect("a none with its rows");
-    says(&format!("reasons 24 {below_0} 600 {listed}"), "yes");
-    says(&format!("reasons 24 {of_0} 600 {listed}"), "no");
+    let fronts = closing_rows(&[&[0], &downwards()[..23]].concat());
+    let fronts: Vec<&str> = fronts.iter().map(String::as_str).collect();
+    says(&format!("plan 24 1000 24 24 600 {below_0}"), &listed(24, 24, "24 1 25", &fronts));
+    says(&format!("reasons 24 {below_0} {}", list(&fronts)), "yes");
+    says(&format!("reasons 24 {of_0} {}", list(&fronts)), "no");
 }
 
 /// The arc of (x, y, c) leads from y to x, so the ring's arcs follow each other downwards.
+fn downwards() -> Vec<usize> {
+    (0..24).rev().collect()
+}
+
+/// The fronts of the ring's rows, with this cycle in the last.
+fn closing_rows(cycle: &[usize]) -> Vec<String> {
+    let mut fronts = vec!["240".to_string(); 23];
+    fronts.extend(["223".to_string(), Spaced(cycle).to_string()]);
+    fronts
+}
+
 #[test]
 fn a_full_row() {
-    let down: Vec<usize> = (0..24).rev().collect();
+    let down = downwards();
     let up: Vec<usize> = (0..24).collect();
     let turned = [&down[9..], &down[..9]].concat();
     let closing = |cycle: &[usize]| {
-        let cycle = Spaced(cycle).to_string();
-        let mut fronts = vec!["240"; 23];
-        fronts.extend(["223", &cycle]);
+        let fronts = closing_rows(cycle);
+        let fronts: Vec<&str> = fronts.iter().map(String::as_str).collect();
         format!("reasons 24 {} {}", ring(-1), list(&fronts))
     };
     says(&closing(&down), "yes");

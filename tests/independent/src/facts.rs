@@ -1,9 +1,9 @@
-//! The test of facts: all-pairs distances, the latest timetable, and a cycle below 0.
+//! The test of facts: all-pairs distances and the latest timetable.
 
-use crate::problem::{Alternative, Problem, MOST_ALTERNATIVES};
+use crate::problem::{Alternative, MOST_ALTERNATIVES};
 
 /// No path leads there. Far from overflow, whatever is added to it.
-const FAR: i64 = i64::MAX / 4;
+pub const FAR: i64 = i64::MAX / 4;
 
 /// A set of row numbers: bit j for alternative j, bit 64 + j for its opposite.
 pub type Numbers = u128;
@@ -19,7 +19,7 @@ pub fn opposite_of(number: usize) -> usize {
 }
 
 /// The numbers of a set, lowest first.
-pub fn members(numbers: Numbers) -> impl Iterator<Item = usize> {
+pub fn members(numbers: Numbers) -> impl DoubleEndedIterator<Item = usize> {
     (0..2 * MOST_ALTERNATIVES).filter(move |number| numbers & one(*number) != 0)
 }
 
@@ -99,58 +99,10 @@ impl Distances {
 }
 
 /// The sum of two lengths, FAR where one is.
-fn sum(one: i64, other: i64) -> i64 {
+pub fn sum(one: i64, other: i64) -> i64 {
     if one >= FAR || other >= FAR {
         FAR
     } else {
         one + other
     }
-}
-
-/// A cycle below 0 over the given numbers, as numbers in the order of the walk; None where there is none.
-pub fn cycle_below_0(problem: &Problem, numbers: Numbers) -> Option<Vec<usize>> {
-    let mut distances = Distances::without_facts(problem.events);
-    let mut taken = Vec::new();
-    for number in members(numbers) {
-        match distances.with(problem.arc(number)) {
-            Some(more) => distances = more,
-            None => return Some(closed_by(problem, &taken, number)),
-        }
-        taken.push(number);
-    }
-    None
-}
-
-/// The closing arc, then a shortest path over the taken ones from where it ends back to where it starts.
-fn closed_by(problem: &Problem, taken: &[usize], closing: usize) -> Vec<usize> {
-    let arc = problem.arc(closing);
-    let last_arcs = shortest_paths(problem, taken, arc.x);
-    let mut back = Vec::new();
-    let mut event = arc.y;
-    while event != arc.x {
-        let number = last_arcs[event].expect("a path leads back");
-        back.push(number);
-        event = problem.arc(number).y;
-    }
-    back.push(closing);
-    back.reverse();
-    back
-}
-
-/// Per event, the last arc of a shortest path from the start, where one leads there.
-fn shortest_paths(problem: &Problem, taken: &[usize], start: usize) -> Vec<Option<usize>> {
-    let mut length = vec![FAR; problem.events];
-    let mut last_arc = vec![None; problem.events];
-    length[start] = 0;
-    for _ in 0..problem.events {
-        for number in taken {
-            let arc = problem.arc(*number);
-            let reached = sum(length[arc.y], arc.c);
-            if reached < length[arc.x] {
-                length[arc.x] = reached;
-                last_arc[arc.x] = Some(*number);
-            }
-        }
-    }
-    last_arc
 }

@@ -23,6 +23,9 @@ mod script;
 mod script_tests;
 mod search;
 mod serve;
+mod shortest;
+#[cfg(test)]
+mod shortest_tests;
 mod slider;
 mod spoil;
 mod text;

@@ -116,7 +116,7 @@ fn fault(line: &[u8], reply: &[u8]) -> Option<String> {
 }
 
 fn print_failure(seed: u64, request: usize, line: &[u8], expected: &str, reply: &[u8]) {
-    println!("request {request} of seed {seed} failed; any valid cycle would do in a cycle row");
+    println!("request {request} of seed {seed} failed");
     println!("  line:     {}", shown(line));
     println!("  expected: {}", shown(expected.as_bytes()));
     println!("  got:      {}", shown(reply.strip_suffix(b"\n").unwrap_or(reply)));

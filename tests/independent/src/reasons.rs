@@ -1,8 +1,9 @@
 //! The list of reasons: rows as bytes, what a cycle row must be, and the reader.
 
-use crate::facts::{cycle_below_0, one, opposite_of, Numbers};
+use crate::facts::{one, opposite_of, Numbers};
 use crate::problem::{Problem, MOST_ALTERNATIVES, MOST_EVENTS};
 use crate::search::Row;
+use crate::shortest::shortest;
 
 /// A row's bytes: a cycle that passes no event twice has at most as many arcs as there are events.
 pub const ROW: usize = MOST_EVENTS;
@@ -10,16 +11,20 @@ pub const FILLING: u8 = 255;
 pub const GOES_ON: u8 = 240;
 pub const DEAD: u8 = 200;
 
-/// A row's bytes, with a cycle of this program's own choice.
+/// A row's bytes: its mark, or the shortest reason.
 pub fn row_bytes(problem: &Problem, row: Row) -> [u8; ROW] {
     match row {
         Row::GoesOn => filled(&[GOES_ON]),
         Row::Dead(clause) => filled(&[DEAD + clause as u8]),
         Row::Cycle(numbers) => {
-            let cycle = cycle_below_0(problem, numbers).expect("facts without a timetable have a cycle below 0");
-            filled(&cycle.iter().map(|number| *number as u8).collect::<Vec<u8>>())
+            cycle_bytes(&shortest(problem, numbers).expect("facts without a timetable have a cycle below 0"))
         }
     }
+}
+
+/// The row of a cycle: its numbers, then 255s.
+pub fn cycle_bytes(cycle: &[usize]) -> [u8; ROW] {
+    filled(&cycle.iter().map(|number| *number as u8).collect::<Vec<u8>>())
 }
 
 /// The bytes, then 255s.
@@ -27,14 +32,6 @@ pub fn filled(bytes: &[u8]) -> [u8; ROW] {
     let mut row = [FILLING; ROW];
     row[..bytes.len()].copy_from_slice(bytes);
     row
-}
-
-/// True if the bytes are the row: equal for a mark, any valid cycle for a cycle row.
-pub fn is_row(problem: &Problem, row: Row, bytes: &[u8]) -> bool {
-    match row {
-        Row::Cycle(numbers) => is_cycle_row(problem, numbers, bytes),
-        mark => bytes == row_bytes(problem, mark),
-    }
 }
 
 /// A cycle row: one or more of the given numbers, then 255s; a closed walk with its sum below 0.

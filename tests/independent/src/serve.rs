@@ -1,7 +1,6 @@
 //! Answers requests from standard input as the table does, from this program's own definitions.
 
 use crate::answer::answer;
-use crate::compare::written;
 use crate::dialogue::request;
 use crate::spoil;
 use std::io::{self, BufRead, BufWriter, Write};
@@ -31,9 +30,7 @@ pub fn serve(way: Option<usize>) -> io::Result<()> {
 
 /// The reply to a line.
 pub fn reply(line: &[u8]) -> String {
-    let request = request(line);
-    let reply = answer(request.as_ref());
-    written(request.as_ref(), reply)
+    answer(request(line).as_ref()).to_string()
 }
 
 /// Writes lines to standard output.

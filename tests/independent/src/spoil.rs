@@ -2,12 +2,14 @@
 
 use crate::answer::{accepted, answer, Answer, Reply, Screen};
 use crate::dialogue::{request, Request};
+use crate::facts::{members, Numbers};
 use crate::problem::{Lent, Problem, Refusal, AGAINST_ITSELF, FARTHEST_BOUND};
-use crate::reasons::{whole_reading, FILLING, GOES_ON, ROW};
-use crate::requests::closed_pair_not_below_0;
+use crate::reasons::{cycle_bytes, filled, is_cycle_row, whole_reading, FILLING, GOES_ON, ROW};
+use crate::requests::{closed_first, closed_pair_not_below_0, cut_short, turned, twice_round};
 use crate::script::{Refused, NOT_ALLOWED};
 use crate::search::Row;
 use crate::serve;
+use crate::shortest::Walks;
 use crate::slider::Use;
 use crate::text::{self, Page, LONGER_THAN_ROOM};
 use std::ops::RangeInclusive;
@@ -23,7 +25,9 @@ enum Way {
     Texts(fn(usize, String) -> Vec<String>),
 }
 
-const WAYS: [(&str, Way); 85] = [
+type Bytes = [u8; ROW];
+
+const WAYS: [(&str, Way); 97] = [
     ("visits one more", Way::Screen(|_, screen| change_numbers(screen, |visits, _, _| *visits += 1))),
     (
         "before one less",
@@ -45,9 +49,61 @@ const WAYS: [(&str, Way); 85] = [
     ("a 7 left in the reasons", Way::Screen(|_, screen| change_last(&mut screen.reasons, |byte| byte == FILLING, 7))),
     ("a refusal that clears nothing", Way::Reply(|_, reply| uncleared(reply, |_| true))),
     ("12 that clears nothing", Way::Reply(|_, reply| uncleared(reply, |number| number == AGAINST_ITSELF))),
-    ("a cycle of sum 0 or more", Way::Screen(cycle_not_below_0)),
+    (
+        "a cycle of sum 0 or more",
+        Way::Screen(|problem, screen| {
+            other_cycles(problem, screen, |problem, numbers, _| closed_pair_not_below_0(problem, numbers))
+        }),
+    ),
     ("a cycle over an opposite that is no fact", Way::Screen(|_, screen| change_cycles(screen, |row| row[0] ^= 64))),
     ("a broken cycle", Way::Screen(|_, screen| change_cycles(screen, broken))),
+    (
+        "a cycle without its last number",
+        Way::Screen(|problem, screen| other_cycles(problem, screen, |_, _, row| Some(cut_short(row)))),
+    ),
+    (
+        "a valid cycle begun at its second arc",
+        Way::Screen(|problem, screen| other_cycles(problem, screen, |_, _, row| Some(turned(row, 1)))),
+    ),
+    ("a valid cycle begun at its second arc, in the last row only", Way::Screen(|_, screen| last_turned(screen))),
+    (
+        "a valid cycle begun at its second arc, in a full row only",
+        Way::Screen(|problem, screen| {
+            other_cycles(problem, screen, |_, _, row| (row[ROW - 1] != FILLING).then(|| turned(row, 1)))
+        }),
+    ),
+    (
+        "a valid cycle begun at its second arc, in a dead clause's first row only",
+        Way::Screen(|_, screen| turned_after(screen, |row| matches!(row, Row::Dead(_)))),
+    ),
+    (
+        "a valid cycle begun at its second arc, in an unsound standing's row only",
+        Way::Screen(|_, screen| turned_after(screen, |row| row == Row::GoesOn)),
+    ),
+    (
+        "a valid cycle gone round twice",
+        Way::Screen(|problem, screen| other_cycles(problem, screen, |_, _, row| Some(twice_round(row)))),
+    ),
+    (
+        "a valid cycle with another first byte",
+        Way::Screen(|problem, screen| {
+            other_cycles(problem, screen, |problem, numbers, row| with_other_byte(problem, numbers, row, 0))
+        }),
+    ),
+    ("a valid cycle with another last byte", Way::Screen(|problem, screen| other_cycles(problem, screen, other_last))),
+    ("a valid cycle of more arcs", Way::Screen(|problem, screen| other_cycles(problem, screen, of_more_arcs))),
+    (
+        "a valid cycle that the numbers close first, taken from the lowest",
+        Way::Screen(|problem, screen| {
+            other_cycles(problem, screen, |problem, numbers, _| closed_by(problem, members(numbers).collect()))
+        }),
+    ),
+    (
+        "a valid cycle that the numbers close first, taken from the highest",
+        Way::Screen(|problem, screen| {
+            other_cycles(problem, screen, |problem, numbers, _| closed_by(problem, members(numbers).rev().collect()))
+        }),
+    ),
     ("a 7 after a cycle's end", Way::Screen(|_, screen| change_cycles(screen, |row| row[ROW - 1] = 7))),
     ("a cycle row left all 255", Way::Screen(|_, screen| change_cycles(screen, |row| row.fill(FILLING)))),
     ("a mark with the next clause", Way::Screen(|_, screen| change_marks(screen, |row| row[0] += 1))),
@@ -206,16 +262,12 @@ fn spoiled_reply(way: &Way, line: &[u8]) -> String {
         _ => {}
     }
     let mut reply = answer(Some(&request));
-    if let (Request::Plan(asked), Reply::Screen(screen)) = (&request, &mut reply) {
-        if let Ok(problem) = accepted(asked) {
-            screen.list(&problem);
-            if let Way::Screen(change) = way {
-                change(&problem, screen);
-            }
+    match (way, &request, &mut reply) {
+        (Way::Screen(change), Request::Plan(asked), Reply::Screen(screen)) => {
+            accepted(asked).iter().for_each(|problem| change(problem, screen))
         }
-    }
-    if let Way::Reply(change) = way {
-        change(&request, &mut reply);
+        (Way::Reply(change), request, reply) => change(request, reply),
+        _ => {}
     }
     reply.to_string()
 }
@@ -287,12 +339,59 @@ fn broken(row: &mut [u8]) {
     }
 }
 
-fn cycle_not_below_0(problem: &Problem, screen: &mut Screen) {
+/// Puts another row in the place of each cycle row, where one is found by its numbers and its bytes.
+fn other_cycles(problem: &Problem, screen: &mut Screen, other: fn(&Problem, Numbers, &Bytes) -> Option<Bytes>) {
     for (bytes, row) in screen.reasons.chunks_mut(ROW).zip(&screen.rows) {
         if let Row::Cycle(numbers) = row {
-            if let Some(walk) = closed_pair_not_below_0(problem, *numbers) {
-                bytes.copy_from_slice(&walk);
-            }
+            other(problem, *numbers, &filled(bytes)).iter().for_each(|other| bytes.copy_from_slice(other));
+        }
+    }
+}
+
+/// The row with one byte changed so that a valid cycle stands there again.
+fn with_other_byte(problem: &Problem, numbers: Numbers, row: &Bytes, place: usize) -> Option<Bytes> {
+    let with = |number: usize| {
+        let mut other = *row;
+        other[place] = number as u8;
+        other
+    };
+    members(numbers).map(with).find(|other| other != row && is_cycle_row(problem, numbers, other))
+}
+
+fn other_last(problem: &Problem, numbers: Numbers, row: &Bytes) -> Option<Bytes> {
+    let last = row.iter().rposition(|byte| *byte != FILLING)?;
+    with_other_byte(problem, numbers, row, last)
+}
+
+/// A valid cycle of as few arcs more as there is one of.
+fn of_more_arcs(problem: &Problem, numbers: Numbers, row: &Bytes) -> Option<Bytes> {
+    let arcs = row.iter().filter(|byte| **byte != FILLING).count();
+    let mut walks = Walks::new(problem, numbers);
+    (arcs + 1..=ROW).find_map(|arcs| walks.first_below_0(arcs)).map(|cycle| cycle_bytes(&cycle))
+}
+
+fn closed_by(problem: &Problem, order: Vec<usize>) -> Option<Bytes> {
+    closed_first(problem, &order).map(|cycle| cycle_bytes(&cycle))
+}
+
+fn turn(screen: &mut Screen, place: usize) {
+    if let Row::Cycle(_) = screen.rows[place] {
+        let row = &mut screen.reasons[place * ROW..(place + 1) * ROW];
+        row.copy_from_slice(&turned(&filled(row), 1));
+    }
+}
+
+fn last_turned(screen: &mut Screen) {
+    if !screen.rows.is_empty() {
+        turn(screen, screen.rows.len() - 1);
+    }
+}
+
+/// Turns the cycle rows that come right after such a row.
+fn turned_after(screen: &mut Screen, chosen: fn(Row) -> bool) {
+    for place in 1..screen.rows.len() {
+        if chosen(screen.rows[place - 1]) {
+            turn(screen, place);
         }
     }
 }

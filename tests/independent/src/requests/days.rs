@@ -1,5 +1,5 @@
-//! The lines that every run begins with: the days of 01 and their edges, an event against itself, the sliders of 01 and
-//! 02, worked scripts and texts, and the longest lines.
+//! The lines that every run begins with: the days of 01 and their edges, days with several reasons, an event against
+//! itself, the sliders of 01 and 02, worked scripts and texts, and the longest lines.
 
 use super::against_itself;
 use super::fixed_scripts;
@@ -55,7 +55,7 @@ fn plans() -> Vec<Request> {
             }
         }
     }
-    for lent in edges() {
+    for lent in edges().into_iter().chain(with_several_reasons()) {
         let (timetable, picks) = (MOST_EVENTS + 1, MOST_CLAUSES + 1);
         plans.push(Request::Plan(Asked { lent, allowance: 1_000_000, timetable, picks, reasons: 100 * ROW }));
     }
@@ -121,13 +121,37 @@ pub fn lowest() -> Lent {
     lent(MOST_EVENTS, &clauses)
 }
 
-/// Lists for the days and edges: empty, a mark alone, those of D4, and what the search writes.
+/// Days without a plan for several reasons: parallel arcs, of which the first is heavier and light enough, heavier and too
+/// heavy, or equal; a cycle with smaller numbers and a lower sum, but more arcs; two cycles from different numbers, either
+/// of them lower; and two from the same number.
+fn with_several_reasons() -> Vec<Lent> {
+    vec![
+        closed_late(2, &[[0, 1, 3], [0, 1, -5]], [1, 0, -4]),
+        closed_late(2, &[[0, 1, 3], [0, 1, -5]], [1, 0, 4]),
+        closed_late(2, &[[0, 1, -5], [0, 1, -5]], [1, 0, -4]),
+        closed_late(3, &[[2, 1, -50], [0, 2, -50], [0, 1, 0]], [1, 0, -1]),
+        closed_late(4, &[[1, 0, -8], [2, 0, 0], [3, 2, 0], [3, 1, 0]], [0, 3, -1]),
+        closed_late(4, &[[1, 0, 0], [2, 0, -8], [3, 2, 0], [3, 1, 0]], [0, 3, -1]),
+        closed_late(5, &[[3, 4, 0], [0, 1, 0], [2, 3, 0], [1, 3, 0], [0, 2, 0]], [4, 0, -1]),
+    ]
+}
+
+/// These facts, each in a clause, a further fact, and a clause that only this one leaves dead: by its second alternative.
+/// The first is the one given, for which all facts are then known.
+pub fn closed_late(events: i32, facts: &[Triple], alternative: Triple) -> Lent {
+    let mut clauses: Vec<Vec<Triple>> = facts.iter().map(|fact| vec![*fact]).collect();
+    clauses.push(vec![[events, 0, -5]]);
+    clauses.push(vec![alternative, [0, events, 4]]);
+    lent(events as usize + 1, &clauses)
+}
+
+/// Lists for all these days: empty, a mark alone, those of D4, and what the search writes.
 fn lists() -> Vec<Request> {
     let day_4 = [filled(&[GOES_ON]), filled(&[DEAD + 1]), filled(&[0, 1])].concat();
     let turned = [filled(&[GOES_ON]), filled(&[DEAD + 1]), filled(&[1, 0])].concat();
     let fixed = [Vec::new(), filled(&[DEAD]).to_vec(), day_4, turned];
     let mut requests = Vec::new();
-    for lent in days().into_iter().chain(edges()) {
+    for lent in days().into_iter().chain(edges()).chain(with_several_reasons()) {
         let own = lent.accepted().map(|problem| rows_of_the_search(&problem).concat());
         let lists = fixed.iter().cloned().chain(own);
         requests.extend(lists.map(|list| Request::Reasons { lent: lent.clone(), list }));

@@ -1,11 +1,12 @@
 //! Lists of reasons: rows of the search, other whole readings, and both with something changed.
 
+use super::cycles::any_cycle;
 use crate::dialogue::MOST_REASONS;
-use crate::facts::{cycle_below_0, members, one, opposite_of, Distances, Numbers};
+use crate::facts::{members, one, opposite_of, Distances, Numbers};
 use crate::problem::Problem;
 use crate::random::Random;
-use crate::reasons::{filled, row_bytes, weight, DEAD, FILLING, GOES_ON, ROW};
-use crate::search::{search, Row};
+use crate::reasons::{cycle_bytes, filled, row_bytes, weight, DEAD, FILLING, GOES_ON, ROW};
+use crate::search::search;
 
 /// The most rows of a list that is made here.
 pub const MOST_ROWS: usize = 300;
@@ -34,13 +35,14 @@ pub fn list(random: &mut Random, problem: &Problem) -> Vec<u8> {
     list
 }
 
-/// The rows that the search writes, with own cycles, whether it ended or not.
+/// The rows that the search writes, whether it ended or not.
 pub fn rows_of_the_search(problem: &Problem) -> Vec<Bytes> {
     let outcome = search(problem, MOST_ROWS as u64, MOST_ROWS);
     outcome.listed.iter().map(|row| row_bytes(problem, *row)).collect()
 }
 
-/// A reading with any dead clause, marks on unsound standings and deeper than it need be; at times with one fault.
+/// A reading with any dead clause and any cycles, marks on unsound standings and deeper than it need be; at times with one
+/// fault.
 fn any_reading(random: &mut Random, problem: &Problem) -> Vec<Bytes> {
     let faultless = random.one_in(2);
     let sound_cycles = if faultless { usize::MAX } else { random.below(10) };
@@ -63,8 +65,10 @@ impl Writer<'_> {
             return;
         }
         let last = k == self.problem.clauses.len();
-        let unsound = cycle_below_0(self.problem, facts).is_some();
-        let dead = self.dead_clauses(k, facts);
+        let known = members(facts).map(|number| self.problem.arc(number));
+        let distances = Distances::all_pairs(self.problem.events, known);
+        let unsound = distances.is_none();
+        let dead = self.dead_clauses(k, distances.as_ref());
         if unsound && self.random.one_in(60) {
             self.rows.push(filled(&[GOES_ON]));
         } else if unsound && k > 0 && self.random.one_in(40) {
@@ -82,14 +86,10 @@ impl Writer<'_> {
         }
     }
 
-    /// The later clauses of which no alternative has a timetable together with the facts.
-    fn dead_clauses(&self, k: usize, facts: Numbers) -> Vec<usize> {
-        let known = members(facts).map(|number| self.problem.arc(number));
-        let distances = Distances::all_pairs(self.problem.events, known);
-        let allowed = |number: usize| match &distances {
-            Some(distances) => distances.allow(self.problem.alternatives[number]),
-            None => false,
-        };
+    /// The later clauses of which no alternative has a timetable together with the facts, which may have none alone.
+    fn dead_clauses(&self, k: usize, distances: Option<&Distances>) -> Vec<usize> {
+        let allowed =
+            |number: usize| distances.is_some_and(|distances| distances.allow(self.problem.alternatives[number]));
         let dead = |clause: &usize| !self.problem.clauses[*clause].clone().any(allowed);
         (k..self.problem.clauses.len()).filter(dead).collect()
     }
@@ -114,7 +114,13 @@ impl Writer<'_> {
     fn cycle(&mut self, numbers: Numbers) {
         let fault = if self.sound_cycles == 0 { self.faulty_cycle(numbers) } else { None };
         self.sound_cycles = self.sound_cycles.wrapping_sub(1);
-        self.rows.push(fault.unwrap_or_else(|| row_bytes(self.problem, Row::Cycle(numbers))));
+        let row = fault.unwrap_or_else(|| self.sound_cycle(numbers));
+        self.rows.push(row);
+    }
+
+    fn sound_cycle(&mut self, numbers: Numbers) -> Bytes {
+        let cycle = any_cycle(self.random, self.problem, numbers);
+        cycle_bytes(&cycle.expect("facts without a timetable have a cycle below 0"))
     }
 
     /// A row that is nearly a cycle row over the numbers, where one is found.
@@ -199,7 +205,7 @@ fn used(row: &Bytes) -> usize {
 }
 
 /// The same cycle begun at another arc.
-fn turned(row: &Bytes, by: usize) -> Bytes {
+pub fn turned(row: &Bytes, by: usize) -> Bytes {
     let used = used(row);
     let mut turned = *row;
     turned[..used].rotate_left(by % used.max(1));
@@ -207,7 +213,7 @@ fn turned(row: &Bytes, by: usize) -> Bytes {
 }
 
 /// The cycle gone round twice, where a row holds that.
-fn twice_round(row: &Bytes) -> Bytes {
+pub fn twice_round(row: &Bytes) -> Bytes {
     let cycle = &row[..used(row)];
     if 2 * cycle.len() <= ROW {
         filled(&[cycle, cycle].concat())
@@ -217,7 +223,7 @@ fn twice_round(row: &Bytes) -> Bytes {
 }
 
 /// The cycle without its last number.
-fn cut_short(row: &Bytes) -> Bytes {
+pub fn cut_short(row: &Bytes) -> Bytes {
     filled(&row[..used(row).saturating_sub(1)])
 }
 

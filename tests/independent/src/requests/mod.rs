@@ -2,6 +2,7 @@
 
 mod against_itself;
 pub mod bench;
+mod cycles;
 pub mod days;
 mod drafts;
 mod fixed_scripts;
@@ -10,6 +11,7 @@ mod lists;
 mod names;
 pub mod peers;
 mod problems;
+mod quarrels;
 mod rings;
 pub mod scripts;
 mod sliders;
@@ -17,7 +19,8 @@ mod spoiled;
 pub mod texts;
 mod writing;
 
-pub use lists::closed_pair_not_below_0;
+pub use cycles::closed_first;
+pub use lists::{closed_pair_not_below_0, cut_short, turned, twice_round};
 
 use crate::dialogue::{Asked, Request, MOST_REASONS, MOST_TIMES};
 use crate::problem::{Lent, Problem, FARTHEST_TIME, MOST_ALLOWANCE};
@@ -68,7 +71,7 @@ fn random_request(random: &mut Random) -> Request {
 
 /// A plan request: an allowance and lent memory around what the search needs, spoiled at times.
 fn plan(random: &mut Random) -> Asked {
-    let lent = problems::problem(random);
+    let lent = if random.one_in(4) { problems::with_a_list(random) } else { problems::problem(random) };
     let problem = lent.accepted().expect("the made problems are accepted");
     let (cap, outcome) = tried(random, &problem);
     let mut asked = Asked {

@@ -1,6 +1,7 @@
 //! Random problems that are accepted: in the manner of 000, section 3, and of other shapes.
 
 use super::lists::MOST_ROWS;
+use super::quarrels::quarrel;
 use super::rings::ring;
 use crate::problem::{Lent, FARTHEST_BOUND, MOST_ALTERNATIVES, MOST_CLAUSES, MOST_EVENTS, MOST_IN_CLAUSE};
 use crate::random::Random;
@@ -23,7 +24,7 @@ pub fn lent(events: usize, clauses: &[Vec<Triple>]) -> Lent {
 
 /// A problem of any shape; about a quarter have a number of events in the largest third.
 pub fn problem(random: &mut Random) -> Lent {
-    match random.below(17) {
+    match random.below(20) {
         0..=3 => small_as_in_000(random),
         4 => large_as_in_000(random),
         5..=6 => tiny(random),
@@ -32,6 +33,7 @@ pub fn problem(random: &mut Random) -> Lent {
         10 => with_one_alternative_clauses(random),
         11 => hard(random),
         12..=15 => ring(random),
+        16..=18 => quarrel(random),
         _ => loose(random),
     }
 }
@@ -58,12 +60,13 @@ pub fn with_a_list(random: &mut Random) -> Lent {
 }
 
 fn maybe_with_a_list(random: &mut Random) -> Lent {
-    match random.below(11) {
+    match random.below(13) {
         0 => as_in_000(random, 2, 4, 24, 100),
         1 => small_as_in_000(random),
         2 => with_one_alternative_clauses(random),
         3 => tiny(random),
         4..=6 => tight(random),
+        7..=8 => quarrel(random),
         _ => ring(random),
     }
 }

@@ -8,16 +8,17 @@ use crate::random::Random;
 /// missing, or more stands beside it.
 pub fn ring(random: &mut Random) -> Lent {
     let n = some_events(random, MOST_EVENTS / 3);
-    let l = random.among(&[0, 5, 100, FARTHEST_BOUND - 3]);
+    let l = random.among(&[0, 5, 100, FARTHEST_BOUND - 5]);
     let times: Vec<i64> = (0..n).map(|_| random.between(-l, 0)).collect();
     let mut clauses = once_around(random, &times);
     clauses[0][0][2] += random.among(&[-1, -1, -1, 0, 1]);
     random.shuffle(&mut clauses);
     clauses.truncate(if random.one_in(6) { n - 1 } else { n });
-    match random.below(4) {
+    match random.below(5) {
         0 => add_clauses(random, &times, &mut clauses),
         1 => add_alternatives(random, &times, &mut clauses),
         2 => give_by_opposites(random, &times, &mut clauses),
+        3 => double_arcs(random, &mut clauses),
         _ => {}
     }
     if random.one_in(4) {
@@ -35,7 +36,7 @@ fn once_around(random: &mut Random, times: &[i64]) -> Vec<Vec<Triple>> {
 }
 
 /// The alternative of two events that these times satisfy with so many minutes to spare.
-fn kept_by(times: &[i64], x: usize, y: usize, spare: i64) -> Triple {
+pub fn kept_by(times: &[i64], x: usize, y: usize, spare: i64) -> Triple {
     [x as i32, y as i32, (times[x] - times[y] + spare) as i32]
 }
 
@@ -69,5 +70,22 @@ fn give_by_opposites(random: &mut Random, times: &[i64], clauses: &mut Vec<Vec<T
         let [x, y, c] = clauses[place][0];
         clauses[place] = vec![[y, x, -c - 1], any_kept_by(random, times, 3)];
         clauses.push(vec![[x, y, c], [x, y, c - 1]]);
+    }
+}
+
+/// Puts arcs beside those of the ring, heavier and lighter ones, and lowers the ring's sum, so that some but not all of
+/// the heavier ones leave it below 0.
+fn double_arcs(random: &mut Random, clauses: &mut Vec<Vec<Triple>>) {
+    let ring = clauses.len();
+    let place = random.below(ring);
+    clauses[place][0][2] -= random.between(0, 3) as i32;
+    for _ in 0..random.below(MOST_CLAUSES + 1 - ring) {
+        let [x, y, c] = clauses[random.below(ring)][0];
+        clauses.push(vec![[x, y, c + random.between(-1, 3) as i32]]);
+    }
+    if random.one_in(2) {
+        random.shuffle(clauses);
+    } else {
+        clauses.rotate_left(ring);
     }
 }

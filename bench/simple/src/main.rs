@@ -6,6 +6,7 @@
 mod facts;
 mod planner;
 mod problem;
+mod reason;
 
 use planner::{plan, Answer};
 use problem::Problem;

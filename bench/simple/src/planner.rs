@@ -1,7 +1,8 @@
 //! The same search as 01's, every test of facts worked out afresh.
 
-use crate::facts::{cycle, latest};
-use crate::problem::{Arc, MOST_EVENTS, Problem};
+use crate::facts::latest;
+use crate::problem::{Arc, Problem, MOST_EVENTS};
+use crate::reason::shortest;
 
 const ROW: usize = MOST_EVENTS;
 const FILLING: u8 = 255;
@@ -120,7 +121,7 @@ impl Search<'_> {
         self.mark(200 + clause as u8);
         for j in self.problem.clause(clause) {
             self.facts.push(self.problem.arc(j));
-            self.cycle();
+            self.reason();
             self.facts.pop();
         }
         self.before += self.problem.selections_under(self.picks.len());
@@ -151,7 +152,7 @@ impl Search<'_> {
         if self.sound() {
             return self.reach();
         }
-        self.cycle();
+        self.reason();
         self.before += self.problem.selections_under(self.picks.len());
         Ended::Closed
     }
@@ -169,9 +170,10 @@ impl Search<'_> {
         }
     }
 
-    fn cycle(&mut self) {
+    /// The shortest reason of the facts, worked out where there is room for its row.
+    fn reason(&mut self) {
         let room = (self.rows as usize + 1) * ROW <= self.reasons.len();
-        let numbers = if room { cycle(self.events, &self.facts) } else { Vec::new() };
+        let numbers = if room { shortest(self.events, &self.facts) } else { Vec::new() };
         if let Some(row) = self.next_row() {
             row[..numbers.len()].copy_from_slice(&numbers);
         }

@@ -39,15 +39,15 @@ record Known (given : List Alternative) (n : ℕ) (a : Alternative) : Type 0 whe
   small : a .no < 2 * mostAlternatives
   inside : In n a
 
--- alternatives are numbered in order
-in-order : (j : ℕ) (xs : List ℤ) → Each (λ a. (j ≤ a .no) × (a .no < j + length (alternatives j xs)) × (getD (alternatives j xs) (a .no - j) nowhere ≡ a)) (alternatives j xs)
+-- each alternative has the number of its place, from j on
+numbers-follow : (j : ℕ) (xs : List ℤ) → Each (λ a. (j ≤ a .no) × (a .no < j + length (alternatives j xs)) × (getD (alternatives j xs) (a .no - j) nowhere ≡ a)) (alternatives j xs)
 unfolding alternatives
-in-order j [] = tt
-in-order j (x ∷ []) = tt
-in-order j (x ∷ (y ∷ [])) = tt
-in-order j (x ∷ (y ∷ (c ∷ more))) = (
+numbers-follow j [] = tt
+numbers-follow j (x ∷ []) = tt
+numbers-follow j (x ∷ (y ∷ [])) = tt
+numbers-follow j (x ∷ (y ∷ (c ∷ more))) = (
   (omega arith, omega arith, let e : j - j ≡ 0 = omega arith in rw e refl),
-  each-map (alternatives (suc j) more) (λ a (l, h, e). (omega arith, omega arith, let q : a .no - j ≡ suc (a .no - suc j) = omega arith in rw q e)) (in-order (suc j) more),
+  each-map (alternatives (suc j) more) (λ a (l, h, e). (omega arith, omega arith, let q : a .no - j ≡ suc (a .no - suc j) = omega arith in rw q e)) (numbers-follow (suc j) more),
 )
 
 module _ (given : List Alternative) (n : ℕ) where
@@ -61,7 +61,7 @@ module _ (given : List Alternative) (n : ℕ) where
 -- so are the facts of an accepted problem, opposites among them
 known : (l : Lent) → Accepted l → Every (Both sound (Known (alternatives 0 (l .triples)) (l .n))) (clausesOf l)
 unfolding clausesOf
-known l a = parted-every _ 0 (l .counts) given (each-map₃ given (λ b i o _. both-known given (l .n) b (omega (arith, o .1, alternatives-count 0 (l .triples), p .all)) (let q : b .no - 0 ≡ b .no = omega arith in rw q at (o .2)) i) (alternatives-in (l .n) 0 (l .triples) (p .events)) (in-order 0 (l .triples)) (in-order 0 (l .triples)))
+known l a = parted-every _ 0 (l .counts) given (each-map₃ given (λ b i o _. both-known given (l .n) b (omega (arith, o .1, alternatives-count 0 (l .triples), p .all)) (let q : b .no - 0 ≡ b .no = omega arith in rw q at (o .2)) i) (alternatives-in (l .n) 0 (l .triples) (p .events)) (numbers-follow 0 (l .triples)) (numbers-follow 0 (l .triples)))
   where
     p : Passes l
     p = passes l (a .taken)

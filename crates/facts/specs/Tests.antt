@@ -3,17 +3,13 @@
 use mathlib.Core.Path.{_≡_}
 use mathlib.Core.Bool.{Bool, true}
 use mathlib.Core.List.{List}
-use Prim.Native.Nat.{ℕ, _*_, _-_, _≤_, _<_}
+use Prim.Native.Nat.{ℕ, _*_, _≤_, _<_}
 use lib.ListN.{length, take}
-use Rattle.meaning.specs.Limits.{mostEvents, mostAlternatives}
+use Rattle.meaning.specs.Limits.{mostAlternatives}
 use Rattle.meaning.specs.Problem.{Alternative}
 use Rattle.meaning.specs.Decision.{sound, least}
-use Rattle.problem.specs.Arcs.{Net, bias, at, Known}
-pub use Rattle.problem.specs.Arcs.{places}
-
--- no test from the extra source gives a time further before closing: as many arcs as lead to all the other events, each with the least bound of an opposite
-abbrev pub farthest : ℕ
-farthest = (mostEvents - 1) * bias
+use Rattle.problem.specs.Arcs.{Net, at, Known}
+pub use Rattle.problem.specs.Arcs.{places, farthest}
 
 -- the facts L are arcs of the net, over n events; and the net has no more arcs than there are alternatives and opposites
 pub record Within (g : Net) (L : List ℕ) (n : ℕ) : Type 0 where

@@ -1,10 +1,12 @@
--- What is left of a list that is one value throughout, and a part of a list. Assumes nothing.
+-- What is left of a list that is one value throughout, a part of a list, and a list that is written from its front. Assumes nothing.
 use mathlib.Core.Path.{_≡_, sym, _∙_, ap}
 use mathlib.Core.List.{List, [], _∷_}
-use Prim.Native.Nat.{ℕ, zero, suc, _-_}
+use mathlib.Core.Logic.{by-cases}
+use Prim.Native.Nat.{ℕ, zero, suc, _+_, _-_, _<_}
 use native.Mathlib.Omega.{arith}
-use lib.ListN.{take, drop, replicate}
-use lib.Seq.{take-nil}
+use native.Mathlib.Decide.{ℕ-discrete}
+use lib.ListN.{length, getD, set, take, drop, replicate}
+use lib.Seq.{take-nil, getD-set-same, getD-set-other}
 
 pub drop-replicate : {A : Type 0} (n k : ℕ) (v : A) → drop n (replicate k v) ≡ replicate (k - n) v
 drop-replicate zero k v = let q : k ≡ k - 0 = omega arith in ap (λ (j : ℕ). replicate j v) q
@@ -17,3 +19,8 @@ drop-take zero k l = rw (let e : k - 0 ≡ k = omega arith in e)
 drop-take (suc i) zero l = rw (let e : 0 - suc i ≡ 0 = omega arith in e)
 drop-take (suc i) (suc k) [] = sym (take-nil (suc k - suc i))
 drop-take (suc i) (suc k) (x ∷ l) = rw (let e : suc k - suc i ≡ k - i = omega arith in e) (drop-take i k l)
+
+-- a list written from the front, place by place
+pub front-more : {A : Type 0} (d : A) (f : ℕ → A) (t : List A) (v : ℕ) (x : A) → ((k : ℕ) → k < v → getD t k d ≡ f k) → v < length t → x ≡ f v → (k : ℕ) → k < v + 1 → getD (set t v x) k d ≡ f k
+front-more d f t v x h l e k m =
+    by-cases (ℕ-discrete k v) (λ q. rw q (getD-set-same t v x d l ∙ e)) (λ q. getD-set-other t v k x d q ∙ h k (omega arith))

@@ -7,7 +7,7 @@ use lib.Signed.{mag}
 use mir.Syntax.{Width, w32, w64}
 use mir.Val.{SFits, hbits, ofZ, toZ}
 use mir.Facts.{toZ-pos, toZ-ofZ, sfits-widen}
-use Rattle.laws.proofs.Differences.{Minus, below, above, minus}
+use Rattle.laws.proofs.Differences.{Minus, below, above, minus, sub-is}
 
 -- an element of a slice of i32, back from its bits
 pub element : (z : ℤ) → mag z < 2 ^ 31 → toZ w32 (ofZ w32 z) ≡ z
@@ -49,6 +49,14 @@ mag-sum (negsuc m) (negsuc n) = omega arith
 
 pub mag-difference : (x y : ℤ) → mag (x -ℤ y) ≤ mag x + mag y + 2
 mag-difference x y = let p = mag-sum x (negℤ y) in let q = mag-negated y in omega arith
+
+-- the difference of two naturals that have a sign's room is no larger than they are
+pub mag-below : (a b : ℕ) {m : ℕ} → a < m → b < m → mag (pos a -ℤ pos b) < m
+mag-below a b {m} h k = rw (sub-is a b) (go (minus a b))
+  where
+    go : {z : ℤ} → Minus a b z → mag z < m
+    go (below l) = omega arith
+    go (above l) = omega arith
 
 -- from 32 bits to 64 and back
 pub through : {z : ℤ} → SFits w32 z → toZ w64 (ofZ w64 (toZ w32 (ofZ w32 z))) ≡ z

@@ -3,7 +3,7 @@ ghost use mathlib.Core.Path.{_≡_};
 ghost use mathlib.Core.List.{_++_, map};
 ghost use Prim.Native.Nat.{ℕ, _+_, _<_, _≤_};
 ghost use lib.ListN.{length, replicate, getD, take, drop};
-ghost use lib.IntN.{ℤ, pos, negℤ, natAbs, _+ℤ_};
+ghost use lib.IntN.{ℤ, pos, negℤ, natAbs, subℕ, _+ℤ_};
 ghost use Rattle.lent.specs.Sizes.{signedEnd};
 
 // All numbers of the slice become v.
@@ -67,4 +67,12 @@ pub fn lifted(c: i32, by: u32) -> u32
     ensures { λ r. ⌜ r ≡ natAbs (c +ℤ pos by) ⌝ }
 {
     (c + (by as i32)) as u32
+}
+
+// The whole number e − by.
+pub fn lowered(e: u32, by: u32) -> i32
+    requires { ⌜ (e < signedEnd) × (by < signedEnd) ⌝ }
+    ensures { λ r. ⌜ r ≡ subℕ e by ⌝ }
+{
+    (e as i32) - (by as i32)
 }

@@ -14,21 +14,22 @@ use lib.Dec.{T, T-not, leb, eqb, leb→le, le→leb, eqb→eq, eqb-refl}
 use lib.IntN.{ℤ, pos, negsuc}
 use mir.Facts.{and-yes, yes-and, or-yes, or-no}
 use Rattle.laws.proofs.Tests.{is-true}
+use Rattle.laws.proofs.Integers.{up, down}
 use Rattle.meaning.specs.Problem.{Alternative}
 use Rattle.meaning.specs.Decision.{ask, reach, sound}
 use Rattle.meaning.proofs.Settling.{Each, each-map₃, In, Meets, tally, tally-most, progress}
-use Rattle.meaning.proofs.Ways.{up, down, boundOf, Way, rise, fall, Loop, rise-append, fall-append, way-join}
+use Rattle.meaning.proofs.Ways.{boundOf, Way, rise, fall, Loop, rise-append, fall-append, way-join}
 use Rattle.meaning.proofs.Numbered.{Numbered, Own, numbered-own}
 use Rattle.meaning.proofs.Deciding.{day, day-satisfies, reach-in, sound-decides}
 
 -- ---- a fact in sums of naturals
 meets-sum : (s t : ℕ) (c : ℤ) → ask s c ≤ t → s + down c ≤ t + up c
-unfolding ask up down
+unfolding ask
 meets-sum s t (pos k) h = omega arith
 meets-sum s t (negsuc k) h = omega arith
 
 sum-meets : (s t : ℕ) (c : ℤ) → s + down c ≤ t + up c → ask s c ≤ t
-unfolding ask up down
+unfolding ask
 sum-meets s t (pos k) h = omega arith
 sum-meets s t (negsuc k) h = omega arith
 

@@ -11,6 +11,7 @@ use lib.Signed.{leZ, _≤ℤ_}
 use lib.ListN.{length, getD, length-map, length-replicate, replicate, List·getD-map}
 use lib.Seq.{ext-getD}
 use Rattle.laws.proofs.Differences.{above-is, below-is, Minus, below, above, minus, sub-is}
+use Rattle.laws.proofs.Integers.{≤ℤ-antisym}
 use Rattle.meaning.specs.Problem.{Alternative, Timetable, satisfied, Satisfies, Sound}
 use Rattle.meaning.specs.Plain.{Latest}
 use Rattle.meaning.specs.Search.{Decides}
@@ -179,17 +180,11 @@ module _ (n : ℕ) (fs : List Alternative) (inside : Each (In n) fs) where
           inside (satisfies-each t fs h) (satisfies-each t fs h))
           e)))
 
-≤ℤ-antisym : (a b : ℤ) → a ≤ℤ b → b ≤ℤ a → a ≡ b
-≤ℤ-antisym (pos a) (pos b) h k = let p : a ≤ b = leb→le a b (h .le) in let q : b ≤ a = leb→le b a (k .le) in ap pos (omega arith)
-≤ℤ-antisym (pos a) (negsuc b) h k = absurd (h .le)
-≤ℤ-antisym (negsuc a) (pos b) h k = absurd (k .le)
-≤ℤ-antisym (negsuc a) (negsuc b) h k = let p : b ≤ a = leb→le b a (h .le) in let q : a ≤ b = leb→le a b (k .le) in ap negsuc (omega arith)
-
 -- there is one latest timetable
 pub latest-one : (n : ℕ) (fs : List Alternative) (l m : List ℤ) → Latest n fs l → Latest n fs m → l ≡ m
 latest-one n fs l m h k =
     ext-getD (pos 0) l m (h .size ∙ sym (k .size))
     (λ i b.
     let c : i < n = subst (λ (z : ℕ). i < z) (h .size) b in
-    ≤ℤ-antisym (getD l i (pos 0)) (getD m i (pos 0)) (k .latest (λ e. getD l e (pos 0)) (h .keeps) (λ e x. h .closing e) i c)
+    ≤ℤ-antisym (k .latest (λ e. getD l e (pos 0)) (h .keeps) (λ e x. h .closing e) i c)
     (h .latest (λ e. getD m e (pos 0)) (k .keeps) (λ e x. k .closing e) i c))

@@ -17,11 +17,11 @@ use Rattle.meaning.proofs.Numbered.{Numbered, Own, named-each, numbered
 use Rattle.meaning.proofs.Ways.{Way, rise, fall, loops-loop, loop-loops}
 use Rattle.meaning.proofs.Reasoning.{shortest-is, shortest-one}
 
-each-member : (P : Alternative → Type 0) (fs : List Alternative) (a : Alternative) → Each P fs → List·Memᴰ a fs → P a
+pub each-member : (P : Alternative → Type 0) (fs : List Alternative) (a : Alternative) → Each P fs → List·Memᴰ a fs → P a
 each-member P (b ∷ fs) a h (List·Memᴰ·head e) = subst P (sym e) (h .0)
 each-member P (b ∷ fs) a h (List·Memᴰ·tail m) = each-member P fs a (h .1) m
 
-member-each : (P : Alternative → Type 0) (fs : List Alternative) → ((a : Alternative) → List·Memᴰ a fs → P a) → Each P fs
+pub member-each : (P : Alternative → Type 0) (fs : List Alternative) → ((a : Alternative) → List·Memᴰ a fs → P a) → Each P fs
 member-each P [] h = tt
 member-each P (a ∷ fs) h = (h a (List·Memᴰ·head refl), member-each P fs (λ b m. h b (List·Memᴰ·tail m)))
 

@@ -38,14 +38,14 @@ all-passed ((number, true) ∷ more) n e = (tt, all-passed more (and-yes (ltb 0 
 all-passed ((number, false) ∷ more) n e = absurd (let l : 0 < number = ltb→lt 0 number (and-yes (ltb 0 number) (numbered more) n .0) in omega arith)
 
 -- tests put after others change nothing where one of the first ones fails
-front-first : (ts us : List Test) → 0 < firstFailed ts → firstFailed (ts ++ us) ≡ firstFailed ts
+pub front-first : (ts us : List Test) → 0 < firstFailed ts → firstFailed (ts ++ us) ≡ firstFailed ts
 unfolding firstFailed
 front-first [] us l = absurd (not-suc-le-zero l)
 front-first ((number, true) ∷ ts) us l = front-first ts us l
 front-first ((number, false) ∷ ts) us l = refl
 
 -- and say all where none does
-passed-over : (ts us : List Test) → Passed (results ts) → firstFailed (ts ++ us) ≡ firstFailed us
+pub passed-over : (ts us : List Test) → Passed (results ts) → firstFailed (ts ++ us) ≡ firstFailed us
 unfolding firstFailed
 passed-over [] us p = refl
 passed-over (t ∷ ts) us p = rw (is-true (t .1) (p .0)) (passed-over ts us (p .1))

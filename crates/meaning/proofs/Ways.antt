@@ -12,21 +12,13 @@ use lib.Signed.{ltZ}
 use lib.ListN.{length}
 use mir.Facts.{and-yes, yes-and}
 use Rattle.laws.proofs.Differences.{above-is, below-is, Minus, below, above, minus, sub-add}
+use Rattle.laws.proofs.Integers.{up, down}
 use Rattle.meaning.specs.Problem.{Alternative}
 use Rattle.meaning.specs.Reasons.{named, given, walk, loops}
 
 -- ---- whole numbers as differences
 -- a bound is what it rises less what it falls
-unfoldable pub up : ℤ → ℕ
-up (pos k) = k
-up (negsuc k) = 0
-
-unfoldable pub down : ℤ → ℕ
-down (pos k) = 0
-down (negsuc k) = suc k
-
 up-down : (z : ℤ) → z ≡ subℕ (up z) (down z)
-unfolding up down
 up-down (pos k) = sym (above-is k 0 (omega arith) ∙ ap pos (omega arith))
 up-down (negsuc k) = sym (below-is 0 (suc k) (omega arith) ∙ ap negsuc (omega arith))
 

@@ -81,6 +81,10 @@ areApart x y = ltZ x y || ltZ y x
 abbrev pub isBound : ℤ → Bool
 isBound c = leb (natAbs c) mostBound
 
+-- "events n": at least 1, and no more than there may be
+abbrev pub isSize : ℕ → Bool
+isSize n = leb 1 n && leb n mostEvents
+
 -- a test, and beside it the number that refuses where it fails
 abbrev pub Test : Type 0
 Test = ℕ × Bool
@@ -88,7 +92,7 @@ Test = ℕ × Bool
 -- what is asked of a problem everywhere, in the order in which it is looked for: 01's refusals 1 to 6, and A6's 12 "after 5 and before 6"
 unfoldable pub problemTests : Lent → List Test
 problemTests l =
-    (1, leb 1 (l .n) && leb (l .n) mostEvents)
+    (1, isSize (l .n))
     ∷ (2, leb (length (l .counts)) mostClauses)
     ∷ (3, eqb (length (l .triples) % 3) 0 && leb (length (l .triples)) (3 * mostAlternatives))
     ∷ (4, stepped (length (l .triples) / 3) 0 (l .counts))

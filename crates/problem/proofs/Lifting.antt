@@ -1,21 +1,19 @@
 -- Bounds as naturals: a bound and its opposite's, with the bias added, and back. Assumes nothing.
 use mathlib.Core.Path.{_≡_, refl, sym, ap, _∙_}
-use Prim.Native.Nat.{ℕ, zero, suc, _+_, _-_, _*_, _<_, _≤_}
+use Prim.Native.Nat.{zero, suc, _+_, _-_, _*_, _≤_}
 use native.Mathlib.Omega.{arith}
-use lib.IntN.{ℤ, pos, negsuc, natAbs, negℤ, predℤ, subℕ, _+ℤ_, _-ℤ_, +ℤ-negℤ-cancel}
+use lib.IntN.{ℤ, pos, negsuc, natAbs, negℤ, predℤ, subℕ, _+ℤ_}
 use Rattle.laws.proofs.Differences.{above-is}
+use Rattle.laws.proofs.Integers.{Lifts as Lifted, lifts-by, lifted-back}
 use Rattle.meaning.specs.Limits.{mostBound}
 use Rattle.problem.specs.Arcs.{bias}
 
 -- the natural number that a bound or an opposite's bound is with the bias added
-pub record Lifts (c : ℤ) : Type 0 where
-  pub b : ℕ
-  pub is : c +ℤ pos bias ≡ pos b
-  pub small : b < 2 * bias
+abbrev pub Lifts : ℤ → Type 0
+Lifts c = Lifted bias c
 
 pub lifts : (c : ℤ) → natAbs c ≤ mostBound → Lifts c
-lifts (pos n) h = record { b = n + bias; is = refl; small = omega arith }
-lifts (negsuc n) h = record { b = bias - suc n; is = above-is bias (suc n) (omega arith); small = omega arith }
+lifts c h = lifts-by bias c (omega arith)
 
 -- a bound's and its opposite's add up to 2 · mostBound + 1
 pub lifts-opposite : (c : ℤ) → natAbs c ≤ mostBound → predℤ (negℤ c) +ℤ pos bias ≡ pos (2 * mostBound + 1 - natAbs (c +ℤ pos bias))
@@ -28,5 +26,5 @@ lifts-opposite (negsuc n) h =
     ap pos q ∙ ap (λ (z : ℤ). pos (2 * mostBound + 1 - natAbs z)) (sym (above-is bias (suc n) (omega arith)))
 
 -- the bias taken off again
-pub unbiased : (c : ℤ) (l : Lifts c) → subℕ (natAbs (c +ℤ pos bias)) bias ≡ c
-unbiased c l = ap (λ (z : ℤ). subℕ (natAbs z) bias) (l .is) ∙ ap (λ (z : ℤ). z -ℤ pos bias) (sym (l .is)) ∙ +ℤ-negℤ-cancel c (pos bias)
+pub unbiased : (c : ℤ) → Lifts c → subℕ (natAbs (c +ℤ pos bias)) bias ≡ c
+unbiased c l = lifted-back bias c l

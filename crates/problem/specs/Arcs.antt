@@ -1,16 +1,20 @@
 -- A problem in the numbers that the tests use: arcs in three lists of naturals, by their numbers, j for alternative j and 64 + j for its opposite.
 -- A bound c stands as c + bias; a time t as the minutes −t before closing. Definitions only.
 use mathlib.Core.List.{List, [], _∷_}
-use Prim.Native.Nat.{ℕ, zero, suc, _+_, _*_, _<_}
+use Prim.Native.Nat.{ℕ, zero, suc, _+_, _-_, _*_, _<_}
 use lib.IntN.{subℕ}
 use lib.ListN.{length}
-use Rattle.meaning.specs.Limits.{mostAlternatives, mostBound}
+use Rattle.meaning.specs.Limits.{mostEvents, mostAlternatives, mostBound}
 use Rattle.meaning.specs.Problem.{Alternative, Clause}
 pub use Rattle.meaning.specs.Decision.{at}
 
 -- what is added to a bound, so that an opposite's is no less than 0
 abbrev pub bias : ℕ
 bias = mostBound + 1
+
+-- no time of a test lies further before closing, and no distance further from 0: as many arcs as lead to all the other events, each with the least bound of an opposite
+abbrev pub farthest : ℕ
+farthest = (mostEvents - 1) * bias
 
 -- arc j leads from event ys j to event xs j; its bound is bs j less the bias
 pub record Net : Type 0 where

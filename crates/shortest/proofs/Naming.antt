@@ -6,9 +6,8 @@ use mathlib.Core.List.{List, [], _∷_, map}
 use Prim.Native.Nat.{ℕ, _+_, _*_, _≤_, _<_}
 use native.Mathlib.Omega.{arith}
 use lib.Dec.{T}
-use lib.IntN.{ℤ, subℕ}
 use lib.ListN.{length}
-use Rattle.laws.proofs.Differences.{Minus, below, above, minus}
+use Rattle.laws.proofs.Integers.{sub-law}
 use Rattle.meaning.specs.Limits.{rowBytes}
 use Rattle.meaning.specs.Problem.{Alternative}
 use Rattle.meaning.specs.Decision.{sound}
@@ -16,25 +15,16 @@ use Rattle.meaning.specs.Search.{cycle}
 use Rattle.meaning.specs.Reasons.{named, loops}
 use Rattle.meaning.specs.Shortest.{Shortest, shortest}
 use Rattle.meaning.specs.Listing.{padded, rowOf}
-use Rattle.meaning.proofs.Ways.{up, down, boundOf, Way, rise, fall, loops-loop, loop-loops}
+use Rattle.meaning.proofs.Ways.{boundOf, Way, rise, fall, loops-loop, loop-loops}
 use Rattle.meaning.proofs.Numbered.{Numbered, Own, named-each, numbered-own}
 use Rattle.meaning.proofs.Reasoning.{shortest-is, shortest-one, shortest-few}
-use Rattle.problem.specs.Arcs.{Net, head, tail, bound, bias, at, arc}
+use Rattle.problem.specs.Arcs.{Net, head, tail, bound, bias, arc}
 use Rattle.facts.specs.Tests.{Within, IsFact}
 use Rattle.facts.proofs.Joining.{each-fact, fact-each, within-in}
 use Rattle.shortest.specs.Paths.{Path, sum, From}
 use Rattle.shortest.specs.Best.{RowBelow, Best}
 
 -- ---- facts and their numbers
--- a bound less the bias
-up-sub : (a b : ℕ) → up (subℕ a b) + b ≡ down (subℕ a b) + a
-unfolding up down
-up-sub a b = go (minus a b)
-  where
-    go : {z : ℤ} → Minus a b z → up z + b ≡ down z + a
-    go (below l) = omega arith
-    go (above l) = omega arith
-
 module _ (g : Net) (L : List ℕ) where
   -- arcs are told apart by their numbers
   arcs-numbered : Numbered (arc g) (map (arc g) L)
@@ -64,7 +54,7 @@ module _ (g : Net) (L : List ℕ) where
   path-sum : (l : List ℕ) (u v : ℕ) → Path g L u l v → rise (map (arc g) L) l + length l * bias ≡ fall (map (arc g) L) l + sum g l
   unfolding rise fall boundOf
   path-sum [] u v p = refl
-  path-sum (j ∷ l) u v (f, e, p) = rw (fact-named j f) (omega (arith, up-sub (bound g j) bias, path-sum l (head g j) v p))
+  path-sum (j ∷ l) u v (f, e, p) = rw (fact-named j f) (omega (arith, sub-law (bound g j) bias, path-sum l (head g j) v p))
 
   from-loops : (v : ℕ) (l : List ℕ) → From g L v l → T (loops (map (arc g) L) l)
   from-loops v l f = loop-loops (map (arc g) L) l (record { node = v; way = path-way l v v (f .path); below = omega (arith, path-sum l v v (f .path), f .negative) })

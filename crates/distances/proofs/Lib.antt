@@ -1,0 +1,14 @@
+pub mod Distances
+pub mod Walking
+pub mod Updating
+pub mod Timetables
+pub mod Afresh
+pub mod Tight
+pub mod Range
+pub mod Numbers
+pub mod Lowering
+pub mod Rows
+pub mod Tables
+pub mod Meaning
+pub mod Beginning
+pub mod Minutes

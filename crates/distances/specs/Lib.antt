@@ -1,0 +1,4 @@
+pub mod Distances
+pub mod Adding
+pub mod Numbers
+pub mod Rows

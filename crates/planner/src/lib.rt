@@ -1,5 +1,5 @@
-// The planner's public operations: `plan`, `read_reasons`, `read_timetable`, `lamps`, `slide`, `read_script` and `write_script`. Each answers
-// every input; none asks anything of its caller.
+// The planner's public operations: `plan`, `read_reasons`, `read_timetable`, `lamps`, `slide`, `read_script`, `write_script`, and on a standing
+// day `fresh_day`, `add_fact`, `add_fact_to` and `read_day`. Each answers every input; none asks anything of its caller.
 ghost use mathlib.Core.Path.{_≡_};
 ghost use mathlib.Core.Bool.{true};
 ghost use mathlib.Core.List.{_++_};
@@ -27,6 +27,10 @@ pub use script::write_script;
 use search::Place;
 use search::Turn;
 pub use slider::slide;
+pub use standing::add_fact;
+pub use standing::add_fact_to;
+pub use standing::fresh_day;
+pub use standing::read_day;
 
 // The largest allowance.
 const ALLOWANCE: u32 = 1000000;

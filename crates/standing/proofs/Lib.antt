@@ -1,0 +1,12 @@
+pub mod Every
+pub mod Singles
+pub mod Listed
+pub mod Passing
+pub mod Tabling
+pub mod Making
+pub mod Owning
+pub mod Agreeing
+pub mod Asking
+pub mod Answers
+pub mod Telling
+pub mod Claims

@@ -1,0 +1,4 @@
+pub mod Entries
+pub mod Standing
+pub mod Following
+pub mod Numbers

@@ -5,7 +5,7 @@ use mathlib.Core.Bool.{Bool, true, false, cond}
 use mathlib.Core.List.{List, _++_}
 use mathlib.Core.Option.{Option}
 use borrow.Author.Tests.{leb-true, le-leb, lt-leb}
-use lib.Dec.{leb}
+use lib.Dec.{leb, eqb}
 use lib.IntN.{ℤ}
 use lib.ListN.{length, take, drop}
 use Rattle.laws.proofs.Tests.{never}
@@ -22,7 +22,11 @@ use Rattle.exchange.specs.declared.requests.Lists.{Lists}
 use Rattle.exchange.specs.declared.requests.Lists.the-variants as Lists
 use Rattle.exchange.specs.declared.requests.Head.{Head}
 use Rattle.exchange.specs.declared.requests.Head.the-variants as Head
-use Rattle.exchange.specs.Requests.{number, numberAt, fromNext, fromCounted, countAt, upTo, listAt, filledAt, listsAt, countsAt, headAt}
+use Rattle.exchange.specs.declared.requests.Fact.{Fact}
+use Rattle.exchange.specs.declared.requests.Fact.the-variants as Fact
+use Rattle.exchange.specs.declared.requests.Asked.{Asked}
+use Rattle.exchange.specs.declared.requests.Asked.the-variants as Asked
+use Rattle.exchange.specs.Requests.{number, numberAt, fromNext, fromCounted, countAt, upTo, listAt, filledAt, listsAt, countsAt, headAt, turnedAt, factAt, fromFact, askedAt}
 
 -- ---- a count, by the number that was read
 module _ (s : List ℕ) (at most : ℕ) (r : Next) (is : r ≡ numberAt s at) where
@@ -124,3 +128,19 @@ head-in s at times picks reasons n v t p r end e =
       subst (λ (k : ℕ). k ≤ picks) (let z : p′ ≡ p = cc in z) (count-in s c picks p′ d qp),
       subst (λ (k : ℕ). k ≤ reasons) (let z : r′ ≡ r = cc in z) (count-in s d reasons r′ f qr),
     )
+
+-- ---- a day's request: so is what is lent of the timetable
+from-fact : {A : Type 0} (otherwise : A) (f : ℤ → ℤ → ℤ → ℕ → A) (x : A) → (otherwise ≡ x → ⊥) → (r : Fact) → fromFact otherwise f r ≡ x → (u : ℤ) × (v : ℤ) × (c : ℤ) × (p : ℕ) × (f u v c p ≡ x)
+from-fact otherwise f x other Fact.Malformed e = absurd (other e)
+from-fact otherwise f x other (Fact.Of u v c p) e = (u, v, c, p, e)
+
+pub asked-in : (s : List ℕ) (at times n : ℕ) (o : Bool) (x y c : ℤ) (t end : ℕ) → askedAt s at times ≡ Asked.Of n o x y c t end → t ≤ times
+asked-in s at times n o x y c t end e =
+    let last : ℕ → ℕ → ℤ → ℤ → ℤ → ℕ → Asked = λ n o x y c d. fromCounted Asked.Malformed (λ t end. Asked.Of n (eqb o 1) x y c t end) (countAt s d times) in
+    let third : ℕ → ℕ → ℕ → Asked = λ n o b. fromFact Asked.Malformed (last n o) (factAt s b) in
+    let second : ℕ → ℕ → Asked = λ n a. fromNext Asked.Malformed (third n) (turnedAt s a) in
+    let (n′, a, qn, en) = from-next Asked.Malformed second (Asked.Of n o x y c t end) (λ z. never (cc)) (numberAt s at) e in
+    let (o′, b, qo, eo) = from-next Asked.Malformed (third n′) (Asked.Of n o x y c t end) (λ z. never (cc)) (turnedAt s a) en in
+    let (x′, y′, c′, d, ef) = from-fact Asked.Malformed (last n′ o′) (Asked.Of n o x y c t end) (λ z. never (cc)) (factAt s b) eo in
+    let (t′, p, qt, et) = from-counted Asked.Malformed (λ t end. Asked.Of n′ (eqb o′ 1) x′ y′ c′ t end) (Asked.Of n o x y c t end) (λ z. never (cc)) (countAt s d times) ef in
+    subst (λ (k : ℕ). k ≤ times) {x = t′} (let z : t′ ≡ t = cc in z) (count-in s d times t′ p qt)

@@ -46,9 +46,13 @@ bar (suc n) = 32 ∷ 124 ∷ []
 abbrev pub roomText : List ℕ → List ℕ
 roomText room = bar (length room) ++ led (map decimal room)
 
+-- ` | ` the numbers of a signed list
+abbrev pub timesText : List ℤ → List ℕ
+timesText times = bar (length times) ++ led (map signedDecimal times)
+
 -- ` | ` the timetable's elements ` | ` the picks' ` | ` the reasons'
 abbrev pub lentText : List ℤ → List ℕ → List ℕ → List ℕ
-lentText timetable picks reasons = ((bar (length timetable) ++ led (map signedDecimal timetable)) ++ roomText picks) ++ roomText reasons
+lentText timetable picks reasons = (timesText timetable ++ roomText picks) ++ roomText reasons
 
 -- `yes`, `no` or `refused NUMBER`
 abbrev pub verdictText : Verdict → List ℕ
@@ -84,3 +88,7 @@ scriptRefusedText number place = cond (eqb number 20) (refusedAtText number plac
 -- `text LENGTH`
 abbrev pub lengthText : ℕ → List ℕ
 lengthText n = (116 ∷ 101 ∷ 120 ∷ 116 ∷ []) ++ next n
+
+-- `day NUMBER OFF | d1 … d576 | t1 … tT`
+abbrev pub dayText : ℕ → ℕ → List ℤ → List ℤ → List ℕ
+dayText number off entries timetable = (withTwo (100 ∷ 97 ∷ 121 ∷ []) number off ++ timesText entries) ++ timesText timetable

@@ -4,14 +4,16 @@ use Prim.Native.Nat.{ℕ}
 use mathlib.Core.Bool.{cond}
 use mathlib.Core.List.{List, _++_}
 use mathlib.Core.Option.{Option}
-use lib.Dec.{leb}
+use lib.Dec.{leb, eqb}
 use lib.IntN.{ℤ}
 use lib.ListN.{length, take, drop}
 use Rattle.dialogue.specs.declared.reading.Next.{Next}
 use Rattle.dialogue.specs.declared.reading.Next.the-variants as Next
+use Rattle.dialogue.specs.declared.reading.NextSigned.{NextSigned}
+use Rattle.dialogue.specs.declared.reading.NextSigned.the-variants as NextSigned
 use Rattle.dialogue.specs.declared.reading.Listed.{Listed}
 use Rattle.dialogue.specs.declared.reading.Listed.the-variants as Listed
-use Rattle.dialogue.specs.Told.{asNext, asListed}
+use Rattle.dialogue.specs.Told.{asNext, asNextSigned, asListed}
 use Rattle.dialogue.specs.Words.{wordAt, afterWord, unsignedOf, signedOf}
 use Rattle.dialogue.specs.Lists.{afterList, listFrom}
 use Rattle.exchange.specs.declared.requests.Counted.{Counted}
@@ -20,6 +22,10 @@ use Rattle.exchange.specs.declared.requests.Lists.{Lists}
 use Rattle.exchange.specs.declared.requests.Lists.the-variants as Lists
 use Rattle.exchange.specs.declared.requests.Head.{Head}
 use Rattle.exchange.specs.declared.requests.Head.the-variants as Head
+use Rattle.exchange.specs.declared.requests.Fact.{Fact}
+use Rattle.exchange.specs.declared.requests.Fact.the-variants as Fact
+use Rattle.exchange.specs.declared.requests.Asked.{Asked}
+use Rattle.exchange.specs.declared.requests.Asked.the-variants as Asked
 
 -- an unsigned 32-bit number
 abbrev pub number : List ℕ → Option ℕ
@@ -77,4 +83,41 @@ headAt s at times picks reasons =
     (countAt s c picks))
     (countAt s b times))
     (numberAt s a))
+    (numberAt s at)
+
+-- ---- a day's request
+-- 0, or 1 for the opposite
+abbrev pub turnedAt : List ℕ → ℕ → Next
+turnedAt s at = asNext (afterWord s at) (unsignedOf 1 (wordAt s at))
+
+-- a signed number and the place after it, and what follows from it
+abbrev pub signedAt : List ℕ → ℕ → NextSigned
+signedAt s at = asNextSigned (afterWord s at) (signedOf (wordAt s at))
+
+abbrev pub fromSigned : {A : Type 0} → A → (ℤ → ℕ → A) → NextSigned → A
+fromSigned otherwise f NextSigned.Malformed = otherwise
+fromSigned otherwise f (NextSigned.Of value place) = f value place
+
+-- a fact's two events and its bound, and what follows from them
+abbrev pub factAt : List ℕ → ℕ → Fact
+factAt s at =
+    fromSigned Fact.Malformed
+    (λ x a. fromSigned Fact.Malformed
+    (λ y b. fromSigned Fact.Malformed (λ c end. Fact.Of x y c end) (signedAt s b))
+    (signedAt s a))
+    (signedAt s at)
+
+abbrev pub fromFact : {A : Type 0} → A → (ℤ → ℤ → ℤ → ℕ → A) → Fact → A
+fromFact otherwise f Fact.Malformed = otherwise
+fromFact otherwise f (Fact.Of x y c place) = f x y c place
+
+-- what it says before the entries: the events, whether the opposite is meant, the fact, and how many elements are lent
+abbrev pub askedAt : List ℕ → ℕ → ℕ → Asked
+askedAt s at times =
+    fromNext Asked.Malformed
+    (λ n a. fromNext Asked.Malformed
+    (λ o b. fromFact Asked.Malformed
+    (λ x y c d. fromCounted Asked.Malformed (λ t end. Asked.Of n (eqb o 1) x y c t end) (countAt s d times))
+    (factAt s b))
+    (turnedAt s a))
     (numberAt s at)

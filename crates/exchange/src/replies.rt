@@ -2,7 +2,7 @@
 ghost use mathlib.Core.Path.{_≡_};
 ghost use mathlib.Core.List.{map};
 ghost use Rattle.dialogue.specs.Written.{written, writtenTo, decimal, led};
-ghost use Rattle.exchange.specs.Replies.{next, withTwo, withThree, refusedText, answerText, bar, lentText, verdictText, panelText, boundText, problemText, refusedAtText, scriptRefusedText, lengthText, roomText};
+ghost use Rattle.exchange.specs.Replies.{next, withTwo, withThree, refusedText, answerText, bar, lentText, verdictText, panelText, boundText, problemText, refusedAtText, scriptRefusedText, lengthText, roomText, timesText, dayText};
 use dialogue::put;
 use dialogue::put_number;
 use meaning::Answer;
@@ -22,7 +22,7 @@ fn put_next(reply: &mut [u8], at: usize, n: u64) -> usize
     put_number(reply, to, n)
 }
 
-// A word, visits and before.
+// A word and two numbers, as visits and before.
 fn put_two(reply: &mut [u8], word: &[u8], visits: u64, before: u64) -> usize
     ensures { λ _. ⌜ now (reply .exit) ≡ written (now (reply .entry)) 0 (withTwo (now (word .entry)) visits before) ⌝ }
     ensures { λ r. ⌜ r ≡ writtenTo (now (reply .entry)) 0 (withTwo (now (word .entry)) visits before) ⌝ }
@@ -93,6 +93,15 @@ pub fn put_room(reply: &mut [u8], at: usize, room: &[u8]) -> usize
     dialogue::put_bytes(reply, to, room)
 }
 
+// The numbers of a signed list, led by a bar.
+fn put_times(reply: &mut [u8], at: usize, times: &[i32]) -> usize
+    ensures { λ _. ⌜ now (reply .exit) ≡ written (now (reply .entry)) at (timesText (now (times .entry))) ⌝ }
+    ensures { λ r. ⌜ r ≡ writtenTo (now (reply .entry)) at (timesText (now (times .entry))) ⌝ }
+{
+    let to = put_bar(reply, at, times.len());
+    dialogue::put_times(reply, to, times)
+}
+
 // The lent memory, each part led by a bar.
 pub fn put_lent(
     reply: &mut [u8],
@@ -104,8 +113,7 @@ pub fn put_lent(
     ensures { λ _. ⌜ now (reply .exit) ≡ written (now (reply .entry)) at (lentText (now (timetable .entry)) (now (picks .entry)) (now (reasons .entry))) ⌝ }
     ensures { λ r. ⌜ r ≡ writtenTo (now (reply .entry)) at (lentText (now (timetable .entry)) (now (picks .entry)) (now (reasons .entry))) ⌝ }
 {
-    let to = put_bar(reply, at, timetable.len());
-    let to = dialogue::put_times(reply, to, timetable);
+    let to = put_times(reply, at, timetable);
     let to = put_room(reply, to, picks);
     put_room(reply, to, reasons)
 }
@@ -199,4 +207,14 @@ pub fn put_length(reply: &mut [u8], length: usize) -> usize
 {
     let to = put(reply, 0, b"text");
     put_next(reply, to, length as u64)
+}
+
+// A standing day after an addition: the addition's refusal or 0, that of reading the day off or 0, the day's entries and the timetable.
+pub fn put_day(reply: &mut [u8], number: u8, off: u8, entries: &[i32], timetable: &[i32]) -> usize
+    ensures { λ _. ⌜ now (reply .exit) ≡ written (now (reply .entry)) 0 (dayText number off (now (entries .entry)) (now (timetable .entry))) ⌝ }
+    ensures { λ r. ⌜ r ≡ writtenTo (now (reply .entry)) 0 (dayText number off (now (entries .entry)) (now (timetable .entry))) ⌝ }
+{
+    let to = put_two(reply, b"day", number as u64, off as u64);
+    let to = put_times(reply, to, entries);
+    put_times(reply, to, timetable)
 }

@@ -1,9 +1,10 @@
 // Reading a request: what its line asks for, with its lists in lent memory. The lengths of that memory are the limits of the counts.
 ghost use mathlib.Core.Path.{_≡_};
 ghost use Rattle.dialogue.specs.Words.{unsignedOf, signedOf};
-ghost use Rattle.exchange.specs.Requests.{number, countAt, listAt, filledAt, listsAt, countsAt, headAt};
+ghost use Rattle.exchange.specs.Requests.{number, countAt, listAt, filledAt, listsAt, countsAt, headAt, factAt, askedAt};
 use dialogue::Listed;
 use dialogue::Next;
+use dialogue::NextSigned;
 
 // The largest unsigned 32-bit number.
 const ANY: u32 = 0xffff_ffff;
@@ -32,6 +33,32 @@ pub enum Head {
         timetable: usize,
         picks: usize,
         reasons: usize,
+        place: usize,
+    },
+    Malformed,
+}
+
+// A fact's two events and its bound, and the place after them.
+enum Fact {
+    Of {
+        x: i32,
+        y: i32,
+        c: i32,
+        place: usize,
+    },
+    Malformed,
+}
+
+// What a day's request says before its entries: the events, whether the opposite is meant, the fact, how many elements are lent, and the
+// place after it.
+pub enum Asked {
+    Of {
+        n: u32,
+        opposite: bool,
+        x: i32,
+        y: i32,
+        c: i32,
+        timetable: usize,
         place: usize,
     },
     Malformed,
@@ -161,5 +188,52 @@ pub fn head_at(
         picks,
         reasons,
         place,
+    }
+}
+
+// A fact's two events and its bound.
+fn fact_at(line: &[u8], at: usize) -> Fact
+    ensures { λ r. ⌜ r ≡ factAt (now (line .entry)) at ⌝ }
+{
+    let NextSigned::Of { value: x, place: a } = dialogue::signed_at(line, at) else {
+        return Fact::Malformed;
+    };
+    let NextSigned::Of { value: y, place: b } = dialogue::signed_at(line, a) else {
+        return Fact::Malformed;
+    };
+    match dialogue::signed_at(line, b) {
+        NextSigned::Of { value: c, place } => Fact::Of { x, y, c, place },
+        NextSigned::Malformed => Fact::Malformed,
+    }
+}
+
+// What a day's request says before its entries; `most_times` is how many elements there are to lend.
+pub fn asked_at(line: &[u8], at: usize, most_times: usize) -> Asked
+    ensures { λ r. ⌜ r ≡ askedAt (now (line .entry)) at «most_times» ⌝ }
+{
+    let Next::Of { value: n, place: a } = dialogue::number_at(line, at, ANY) else {
+        return Asked::Malformed;
+    };
+    let Next::Of {
+        value: turned,
+        place: b,
+    } = dialogue::number_at(line, a, 1)
+    else {
+        return Asked::Malformed;
+    };
+    let Fact::Of { x, y, c, place: d } = fact_at(line, b) else {
+        return Asked::Malformed;
+    };
+    match count_at(line, d, most_times) {
+        Counted::Of { count, place } => Asked::Of {
+            n,
+            opposite: turned == 1,
+            x,
+            y,
+            c,
+            timetable: count,
+            place,
+        },
+        Counted::Malformed => Asked::Malformed,
     }
 }

@@ -123,6 +123,9 @@ fn answer(
     if check::same(word, b"write") {
         return operations::write(line, at, reply, triples, counts, reasons);
     }
+    if check::same(word, b"day") {
+        return operations::day(line, at, reply, timetable);
+    }
     0
 }
 

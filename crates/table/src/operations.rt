@@ -1,19 +1,24 @@
-// The seven requests: each reads the rest of its line from `at` on, calls the planner and writes the reply.
+// The eight requests: each reads the rest of its line from `at` on, calls the planner and writes the reply.
 // Each answers how long the reply is; 0 where the line is malformed.
 ghost use Prim.Native.Nat.{_≤_};
 ghost use Rattle.meaning.specs.Limits.{mostAlternatives, mostClauses};
+use dialogue::Listed;
 use dialogue::Next;
 use dialogue::float_of;
+use dialogue::list_signed;
 use dialogue::number_at;
+use exchange::Asked;
 use exchange::Counted;
 use exchange::Head;
 use exchange::Lists;
+use exchange::asked_at;
 use exchange::byte_list;
 use exchange::count_at;
 use exchange::head_at;
 use exchange::lists_at;
 use exchange::put_answer;
 use exchange::put_bound;
+use exchange::put_day;
 use exchange::put_length;
 use exchange::put_lent;
 use exchange::put_panel;
@@ -28,6 +33,8 @@ use script::Written;
 use slider::Kind;
 use slider::Travel;
 use slider::Use;
+use standing::Day;
+use standing::ENTRIES;
 
 // The largest unsigned 32-bit number.
 const ANY: u32 = 0xffff_ffff;
@@ -351,4 +358,54 @@ fn put_written(reply: &mut [u8], written: Written) -> usize {
         Written::Text(length) => put_length(reply, length),
         Written::Refused(number) => put_refused(reply, number),
     }
+}
+
+// day N O X Y C T d1 … d576
+pub(crate) fn day(line: &[u8], at: usize, reply: &mut [u8], timetable: &mut [i32]) -> usize {
+    let Asked::Of {
+        n,
+        opposite,
+        x,
+        y,
+        c,
+        timetable: t,
+        place,
+    } = asked_at(line, at, timetable.len())
+    else {
+        return 0;
+    };
+    let mut entries = [0i32; ENTRIES];
+    let Listed::Up(place) = list_signed(line, place, &mut entries) else {
+        return 0;
+    };
+    if place < line.len() {
+        return 0;
+    }
+    day_lent(
+        Day { n, entries },
+        x,
+        y,
+        c,
+        opposite,
+        &mut timetable[..t],
+        reply,
+    )
+}
+
+// The fact added to the day, the day read off into this timetable, and the reply.
+fn day_lent(
+    day: Day,
+    x: i32,
+    y: i32,
+    c: i32,
+    opposite: bool,
+    timetable: &mut [i32],
+    reply: &mut [u8],
+) -> usize {
+    lent::fill_numbers(timetable, FILL_TIME);
+    let added = planner::add_fact(day, x, y, c, opposite);
+    let day = added.day;
+    let off = planner::read_day(day, timetable);
+    let entries = day.entries;
+    put_day(reply, added.number, off, &entries, timetable)
 }

@@ -168,8 +168,26 @@ same-length-24 c = search needs
 returns-7 : tie.Need-returns-7
 returns-7 c = search needs
 
+slice-aggregate-same-8 : tie.Need-slice-aggregate-same-8
+slice-aggregate-same-8 c = search needs
+
+same-requires-8 : tie.Need-same-requires-8
+same-requires-8 c κs = search needs
+
+day-requires : tie.Need-day-requires
+day-requires c κs = search needs
+
+same-length-25 : tie.Need-same-length-25
+same-length-25 c = search needs
+
+same-length-26 : tie.Need-same-length-26
+same-length-26 c = search needs
+
 returns-8 : tie.Need-returns-8
 returns-8 c = search needs
+
+returns-9 : tie.Need-returns-9
+returns-9 c = search needs
 
 pub answer-spec : {M : Type 1} → statement M
 answer-spec =
@@ -229,4 +247,10 @@ answer-spec =
     same-length-23
     same-length-24
     returns-7
-    returns-8)
+    slice-aggregate-same-8
+    same-requires-8
+    day-requires
+    same-length-25
+    same-length-26
+    returns-8
+    returns-9)

@@ -40,6 +40,7 @@ fresh-day n = record { within = λ a m. absurd (List·Memᴰ·not-nil m); each =
     least (onward a w m) = absurd (List·Memᴰ·not-nil m)
 
 -- ---- the facts one by one
+-- a sound list of facts has a day: each fact fits the day of those before it, since a timetable of all is one of these
 pub afresh-day : (n : ℕ) (fs : List Alternative) → ((a : Alternative) → List·Memᴰ a fs → (a .x < n) × (a .y < n)) → Sound fs → DayOf n fs (afresh fs)
 unfolding afresh
 afresh-day n [] inside y = fresh-day n

@@ -106,7 +106,8 @@ module _ (p b e : ℕ) (hp : (1 ≤ p) × (p < 2 * middle)) (he : (1 ≤ e) × (
           clash : min o (e + (p + b) - turn) ≡ noWay → ⊥
           clash j = omega arith
 
--- lowering is right
+-- Lowering is right, in four cases: the way goes on nowhere, or comes from nowhere (`blocked` adds so much that the least is the old number); there was no old way; there was one, and
+-- the lesser of the two sums is the lesser number. A sum too far below stops at 0, which is out of range.
 pub lowering : (o p b e : ℕ) → InRange o → InRange p → InRange e → b < 2 * bias → Right (lowered o (shift p b) e) (shorter (distance o) (over (distance p) (subℕ b bias) (distance e)))
 lowering o p b e ho hp (inl he) hb =
     rw (lowered-not o (shift p b) e (omega arith), distance-none e (omega arith), over-none (distance p) (subℕ b bias), shorter-none (distance o)) (as-it-was o ho)

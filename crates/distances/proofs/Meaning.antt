@@ -26,17 +26,16 @@ use Rattle.distances.proofs.Lowering.{Right, lowering}
 pub same-day : (n : ℕ) (fs : List Alternative) (d e : Table) → ((u v : ℕ) → u < n → v < n → e u v ≡ d u v) → DayOf n fs d → DayOf n fs e
 same-day n fs d e q day = record { within = day .within; each = λ u v l m. subst (IsDistance fs u v) (sym (q u v l m)) (day .each u v l m) }
 
-module _ (x y b : ℕ) (a : Alternative) (h : Stands x y b a) (hb : b < 2 * bias) where
-  new-small : natAbs (a .c) ≤ bias
-  new-small = rw (h .bound) (near (one-side (subℕ b bias)))
-    where
-      near : (up (subℕ b bias) ≡ 0) ⊎ (down (subℕ b bias) ≡ 0) → natAbs (subℕ b bias) ≤ bias
-      near (inl j) = omega (arith, abs-is (subℕ b bias), sub-law b bias)
-      near (inr j) = omega (arith, abs-is (subℕ b bias), sub-law b bias)
+-- bounds of alternatives and opposites, with one more
+pub bounded-more : (a : Alternative) → natAbs (a .c) ≤ bias → (fs : List Alternative) → ((c : Alternative) → List·Memᴰ c fs → natAbs (c .c) ≤ bias) → (c : Alternative) → List·Memᴰ c (a ∷ fs) → natAbs (c .c) ≤ bias
+bounded-more a small fs k c j = ⊎-elim (λ q. subst (λ (c : Alternative). natAbs (c .c) ≤ bias) (sym q) small) (λ q. k c q) (List·Memᴰ·cases-cons j)
 
-  -- bounds of alternatives and opposites, with one more
-  pub bounded-more : (fs : List Alternative) → ((c : Alternative) → List·Memᴰ c fs → natAbs (c .c) ≤ bias) → (c : Alternative) → List·Memᴰ c (a ∷ fs) → natAbs (c .c) ≤ bias
-  bounded-more fs k c j = ⊎-elim (λ q. subst (λ (c : Alternative). natAbs (c .c) ≤ bias) (sym q) new-small) (λ q. k c q) (List·Memᴰ·cases-cons j)
+number-bounded : (x y b : ℕ) (a : Alternative) → Stands x y b a → b < 2 * bias → natAbs (a .c) ≤ bias
+number-bounded x y b a h hb = rw (h .bound) (near (one-side (subℕ b bias)))
+  where
+    near : (up (subℕ b bias) ≡ 0) ⊎ (down (subℕ b bias) ≡ 0) → natAbs (subℕ b bias) ≤ bias
+    near (inl j) = omega (arith, abs-is (subℕ b bias), sub-law b bias)
+    near (inr j) = omega (arith, abs-is (subℕ b bias), sub-law b bias)
 
 module _ (s : List ℕ) (base w n x y b : ℕ) (a : Alternative) (h : Stands x y b a) (l : x < n) (m : y < n) where
   inside : (a .x < n) × (a .y < n)
@@ -72,10 +71,10 @@ module _ (s : List ℕ) (base w n x y b : ℕ) (a : Alternative) (h : Stands x y
   pub added-reach : b < 2 * bias → (fs : List Alternative) → Holds s base w n fs → sound (a ∷ fs) ≡ true → n ≤ mostEvents → (u v : ℕ) → u < n → v < n → Reach (added a (tableAt s base w) u v)
   added-reach hb fs k ok few =
       in-reach n (a ∷ fs) (added a (tableAt s base w)) (added-day n fs (tableAt s base w) (k .day) a inside (subst T (sym (fits-sound n fs (tableAt s base w) (k .day) a inside ∙ ok)) tt)) few
-      (bounded-more x y b a h hb fs (k .bounded))
+      (bounded-more a (number-bounded x y b a h hb) fs (k .bounded))
 
   -- and the extended table is a standing day again
   pub extended-holds : b < 2 * bias → (z : List ℕ) (to : ℕ) → Extended s z base to w n x y b → (fs : List Alternative) → Holds s base w n fs → sound (a ∷ fs) ≡ true → n ≤ mostEvents → Holds z to w n (a ∷ fs)
   extended-holds hb z to e fs k ok few =
       let (day, ranged) = extended-day hb (k .ranged) z to e fs (k .day) ok (added-reach hb fs k ok few) in
-      record { day = day; ranged = ranged; bounded = bounded-more x y b a h hb fs (k .bounded) }
+      record { day = day; ranged = ranged; bounded = bounded-more a (number-bounded x y b a h hb) fs (k .bounded) }

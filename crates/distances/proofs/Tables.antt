@@ -129,7 +129,8 @@ module _ (r : List ℕ) (from to w n x y b : ℕ) where
           (lt-or-ge i (to + u * w))
           ∙ h .rest i o
 
-      -- one row more
+      -- One row more. Into a later table nothing is read that was written. In place, the rows ahead are not yet written; the fact's own row x is, once its turn has come, but with its
+      -- own numbers: a fact that fits lowers nothing in it (`lowered-self`).
       pub extending-more : Extending r z from to w n x y b (u + 1)
       extending-more =
           record {

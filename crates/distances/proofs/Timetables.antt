@@ -66,7 +66,8 @@ soonest-is (suc k) f =
     (nearer-is (f k) (soonest k f))
 
 module _ (n : ℕ) (fs : List Alternative) (d : Table) (day : DayOf n fs d) where
-  -- the latest timetable keeps every fact
+  -- The latest timetable keeps every fact: the least time of the fact's start is 0 or a distance from some event, and from there, or from the start itself, the fact leads on to its
+  -- end, so that the least time of the end is no later than the bound allows.
   pub latest-keeps : Satisfies (latestBy n d) fs
   latest-keeps = members-satisfied (latestBy n d) fs kept
     where
@@ -114,7 +115,8 @@ module _ (n : ℕ) (fs : List Alternative) (d : Table) (day : DayOf n fs d) wher
   pub latest-same : Each (In n) fs → (l : List ℤ) → length l ≡ n → ((e : ℕ) → e < n → timesOf l e ≡ latestBy n d e) → l ≡ latestOf n fs
   latest-same inside l size same = latest-one n fs l (latestOf n fs) (latest-by l size same) (latest-is n fs inside day-sound)
 
--- a new fact fits exactly where the facts with it are sound
+-- A new fact fits exactly where the facts with it are sound. If it fits, the lowered table is a day, and a day's facts have a timetable. If a timetable keeps all, it keeps the walk
+-- that is the way back, and the fact; the two say that their sum is not below 0.
 pub fits-sound : (n : ℕ) (fs : List Alternative) (d : Table) → DayOf n fs d → (a : Alternative) → (a .x < n) × (a .y < n) → fits a d ≡ sound (a ∷ fs)
 fits-sound n fs d day a inside =
     same-test (fits a d) (sound (a ∷ fs))

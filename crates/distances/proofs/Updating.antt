@@ -41,7 +41,7 @@ module _ (n : ℕ) (fs : List Alternative) (d : Table) (day : DayOf n fs d) wher
             .le
 
     module _ (fit : T (fits a d)) where
-      -- the new fact shortens no way to its own start
+      -- the new fact shortens no way to its own start: the way over it is the old one, and then the fact and the way back, which together do not lie below 0
       back : (u : ℕ) {s : ℤ} → AtMost (added a d u (a .y)) s → AtMost (d u (a .y)) s
       unfolding added noLonger andThen
       back u {s} h =
@@ -73,7 +73,8 @@ module _ (n : ℕ) (fs : List Alternative) (d : Table) (day : DayOf n fs d) wher
           (omega (arith, le-to (p +ℤ a .c +ℤ q) s k, add-law (p +ℤ a .c) q, add-law (p +ℤ a .c) (q +ℤ b .c), add-law q (b .c), add-law s (b .c))))))
           (shorter-either (d u (b .y)) (over (d u (a .y)) (a .c) (d (a .x) (b .y))) h)
 
-      -- no walk over all the facts is shorter
+      -- No walk over all the facts is shorter, by induction over the walk, at its last fact. An old fact goes on from the old distance or from the way over the new fact, since old
+      -- distances keep old facts (`step`). The new fact itself goes on from the old distance (`back`), once over it. How often a walk takes the new fact need not be said.
       none-shorter : {u v : ℕ} {s : ℤ} → u < n → Walk (a ∷ fs) u v s → AtMost (added a d u v) s
       unfolding added
       none-shorter {u} l stay = shorter-first (d u u) _ (itself u l)
@@ -94,7 +95,7 @@ module _ (n : ℕ) (fs : List Alternative) (d : Table) (day : DayOf n fs d) wher
         old : (b : Alternative) → List·Memᴰ b fs → List·Memᴰ b (a ∷ fs)
         old b m = List·Memᴰ·tail m
 
-    -- the table so lowered is the day of the facts with the new one
+    -- the table so lowered is the day of the facts with the new one: each new distance is walked, by old facts or over the new one, and no walk is shorter
     pub added-day : T (fits a d) → DayOf n (a ∷ fs) (added a d)
     added-day fit =
         record {

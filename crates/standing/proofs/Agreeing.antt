@@ -60,6 +60,9 @@ number-small (far z) = go (leb (natAbs z) farthest) refl
     go false e = omega arith
 
 -- ---- the table
+pub few-of : {n : ℕ} → isSize n ≡ true → n ≤ mostEvents
+few-of {n} e = leb→le n mostEvents (and-yes (leb 1 n) (leb n mostEvents) (subst T (sym e) tt) .1)
+
 module _ (d : Day) (s : List ℕ) (num : Numbered (d .entries) s) where
   pub capped : Capped s
   capped = record { each = λ k l. omega (arith, num .each k l, number-small (said (getD (d .entries) k noEntry))) }
@@ -77,6 +80,7 @@ module _ (d : Day) (s : List ℕ) (num : Numbered (d .entries) s) where
     pub agrees : T (isTable n (tableOf d)) → (u v : ℕ) → u < mostEvents → v < mostEvents → tableAt s 0 mostEvents u v ≡ tableOf d u v
     agrees h u v l m = table-at u v l m ∙ number-back (tableOf d u v) (all-ranged (tableOf d) (passes n (tableOf d) h) u v l m)
 
+    -- the numbers pass exactly where the entries do: of either, all must be in range to pass, and in range they are the same distances
     pub table-same : isTable n (tableAt s 0 mostEvents) ≡ isTable n (tableOf d)
     table-same =
         same-test (isTable n (tableAt s 0 mostEvents)) (isTable n (tableOf d))
@@ -105,5 +109,5 @@ module _ (d : Day) (s : List ℕ) (num : Numbered (d .entries) s) where
   day-same = go (isSize (d .n)) refl
     where
       go : (b : Bool) → isSize (d .n) ≡ b → firstFailed (tableTests (d .n) (tableAt s 0 mostEvents)) ≡ firstFailed (tableTests (d .n) (tableOf d))
-      go true e = let few : d .n ≤ mostEvents = leb→le (d .n) mostEvents (and-yes (leb 1 (d .n)) (leb (d .n) mostEvents) (subst T (sym e) tt) .1) in rw (table-same (d .n) few) refl
+      go true e = rw (table-same (d .n) (few-of e)) refl
       go false e = rw e refl

@@ -5,10 +5,9 @@ use mathlib.Core.Logic.{⊎-elim}
 use mathlib.Core.List.{List, _++_, map}
 use Prim.Native.Nat.{ℕ, zero, suc, _+_, _-_, _*_, _/_, _%_, _<_, _≤_}
 use native.Mathlib.Omega.{arith}
-use lib.Dec.{T, leb, leb→le}
+use lib.Dec.{T}
 use lib.IntN.{ℤ, pos}
 use lib.ListN.{replicate, drop, take}
-use mir.Facts.{and-yes}
 use borrow.Author.Tests.{le-leb, lt-leb}
 use Rattle.laws.proofs.Tests.{is-true}
 use Rattle.laws.proofs.Lists.{drop-replicate}
@@ -33,7 +32,7 @@ use Rattle.standing.proofs.Listed.{length-list, at-list, list-same}
 use Rattle.standing.proofs.Passing.{passes}
 use Rattle.standing.proofs.Making.{among-in, among-out, inside-or}
 use Rattle.standing.proofs.Owning.{own-facts}
-use Rattle.standing.proofs.Agreeing.{agrees, added-same}
+use Rattle.standing.proofs.Agreeing.{few-of, agrees, added-same}
 
 some : (k : ℕ) → (k ≡ 0 → ⊥) → 0 < k
 some zero h = absurd (h refl)
@@ -50,7 +49,7 @@ module _ (d : Day) (e : firstFailed (dayTests d) ≡ 0) where
   day-table = all-passed (dayTests d) tt e .1 .0
 
   pub day-few : d .n ≤ mostEvents
-  day-few = leb→le (d .n) mostEvents (and-yes (leb 1 (d .n)) (leb (d .n) mostEvents) (subst T (sym day-sized) tt) .1)
+  day-few = few-of day-sized
 
   -- what is asked after them decides
   pub after-day : (us : List Test) → firstFailed (dayTests d ++ us) ≡ firstFailed us

@@ -2,8 +2,7 @@
 -- exactly where that has no timetable; what is read off is the latest timetable; and the loop's law. Assumes nothing.
 use mathlib.Core.Path.{_≡_, refl, sym, ap, _∙_, subst}
 use mathlib.Core.Bool.{Bool, true, false, cond}
-use mathlib.Core.Logic.{⊎-elim}
-use mathlib.Core.List.{List, [], _∷_, _++_, List·Memᴰ, List·Memᴰ·cases-cons, List·Memᴰ·not-nil}
+use mathlib.Core.List.{List, [], _∷_, _++_, List·Memᴰ, List·Memᴰ·not-nil}
 use Prim.Native.Nat.{ℕ, zero, suc, _-_, _*_, _<_, _≤_}
 use native.Mathlib.Omega.{arith}
 use lib.Dec.{T, leb, eqb, leb→le, ltb→lt}
@@ -26,6 +25,7 @@ use Rattle.distances.proofs.Updating.{added-day}
 use Rattle.distances.proofs.Timetables.{fits-sound}
 use Rattle.distances.proofs.Afresh.{fresh-day, as-afresh, again-fits, twice-is-once}
 use Rattle.distances.proofs.Range.{in-reach}
+use Rattle.distances.proofs.Meaning.{bounded-more}
 use Rattle.standing.specs.declared.Day.{Day}
 use Rattle.standing.specs.declared.Answered.{Answered}
 use Rattle.standing.specs.Entries.{tableOf, dayWith, ownFacts}
@@ -34,11 +34,9 @@ use Rattle.standing.specs.Following.{Follows, Bounded, Addition, factOf,
 use Rattle.standing.proofs.Passing.{passes, all-pair}
 use Rattle.standing.proofs.Making.{reach-range}
 use Rattle.standing.proofs.Owning.{own-facts}
+use Rattle.standing.proofs.Agreeing.{few-of}
 use Rattle.standing.proofs.Telling.{day-by, made-follows}
 use Rattle.standing.proofs.Answers.{after-day, refused-fact, read-latest, read-taken}
-
-few-of : {n : ℕ} → isSize n ≡ true → n ≤ mostEvents
-few-of {n} e = leb→le n mostEvents (and-yes (leb 1 n) (leb n mostEvents) (subst T (sym e) tt) .1)
 
 -- ---- one day for a set of facts
 -- a standing day is what working its facts out afresh gives
@@ -66,7 +64,7 @@ follows-passes d fs f = rw (f .sized, is-true (isTable (d .n) (tableOf d)) (f .t
 
 -- ---- one fact more
 more-bounded : (a : Alternative) (fs : List Alternative) → natAbs (a .c) ≤ bias → Bounded fs → Bounded (a ∷ fs)
-more-bounded a fs h b = record { each = λ e m. ⊎-elim (λ q. subst (λ (e : Alternative). natAbs (e .c) ≤ bias) (sym q) h) (λ k. b .each e k) (List·Memᴰ·cases-cons m) }
+more-bounded a fs h b = record { each = bounded-more a h fs (b .each) }
 
 module _ (x y c : ℤ) (o : Bool) where
   -- an alternative that is taken names events of the day, and its bound or its opposite's is one that 01 knows
@@ -180,6 +178,16 @@ module _ (d : Day) (fs : List Alternative) (f : Follows d fs) (x y c : ℤ) (o :
         pub taken-follows : Follows (dayWith (d .n) (added fact (tableOf d))) (fact ∷ fs)
         taken-follows = made-follows (d .n) (few-of (f .sized)) (added fact (tableOf d)) ranged (f .sized) (fact ∷ fs) new-day
 
+        -- exactly what working it out afresh gives
+        pub taken-afresh : adding d x y c o ≡ record { number = 0; day = dayWith (d .n) (afresh (fact ∷ fs)) }
+        unfolding dayWith
+        taken-afresh = taken ∙ ap (λ (e : Day). record { number = 0; day = e }) (as-worked-out (dayWith (d .n) (added fact (tableOf d))) (fact ∷ fs) taken-follows)
+
+      -- where some new entry would leave the range, 16, and the day stays as it was
+      pub refused-beyond : every (d .n) (λ u. every (d .n) (λ v. inRange (added fact (tableOf d) u v))) ≡ false → adding d x y c o ≡ record { number = 16; day = d }
+      unfolding adding answered newTests firstFailed
+      refused-beyond e = let q : firstFailed (newTests (d .n) (tableOf d) fact) ≡ 16 = rw (fits-is ∙ ok, e) refl in rw (refusal-new ∙ q) refl
+
       -- 16 for the result never happens where the facts are alternatives and opposites
       pub stays-in-range : Bounded fs → (u v : ℕ) → u < d .n → v < d .n → T (inRange (added fact (tableOf d) u v))
       stays-in-range h u v l m =
@@ -272,7 +280,7 @@ module _ (d : Day) (fs : List Alternative) (h : Kept d fs) (q : Addition) where
           let l : 0 < firstFailed facts = omega arith in
           refusal-is d fs (h .follows) (q .x) (q .y) (q .c) (q .opposite) ∙ front-first facts _ l ∙ sym (front-first facts last l)
 
--- any sequence of additions, refused ones left out, is the day of those accepted
+-- Any sequence of additions, refused ones left out, is the day of those accepted: each addition keeps the day one, of the facts so far or of those with the new one.
 pub loop-law : (qs : List Addition) (d : Day) (fs : List Alternative) → Kept d fs → Kept (followed d qs) (accepted d qs fs)
 unfolding followed accepted
 loop-law [] d fs h = h

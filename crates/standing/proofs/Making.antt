@@ -107,7 +107,7 @@ module _ (s z : List ℕ) (n x y b : ℕ) (a : Alternative) (few : n ≤ mostEve
   new-at : (u v : ℕ) → u < n → v < n → T (inRange (new u v)) → tableAt z 0 mostEvents u v ≡ new u v
   new-at u v i j h = ap distance (ext .each u v i j) ∙ right s 0 mostEvents n x y b a st l m hb ranged u v i j .is (reach-in (new u v) h) .0
 
-  -- the numbers stay in range exactly where the distances do
+  -- the numbers stay in range exactly where the distances do: among the events each new number is right for its distance, and past the last one nothing has changed
   pub range-same : every (mostEvents * mostEvents) (λ (k : ℕ). inRange (distance (at z k))) ≡ every n (λ (u : ℕ). every n (λ (v : ℕ). inRange (new u v)))
   range-same =
       same-test _ _

@@ -1,9 +1,9 @@
 // The standing day of 02, A8: a day that follows the slider, one fact after another.
-pub mod adding;
-pub mod check;
-pub mod lying;
-pub mod numbers;
-pub mod reading;
+mod adding;
+mod check;
+mod lying;
+mod numbers;
+mod reading;
 
 pub use adding::add_fact;
 pub use adding::fresh_day;

@@ -1,5 +1,6 @@
 //! The answer to a request by the definitions, and its reply as the dialogue writes it.
 
+use crate::day::{self, After};
 use crate::dialogue::{Asked, Parts, Request, Spaced};
 use crate::lamps::{dark, panel, Panel};
 use crate::plain::latest_timetable;
@@ -20,6 +21,7 @@ pub enum Reply {
     Bound(Result<i64, Refusal>),
     Script(Result<Lent, Refused>),
     Written(Page),
+    Day(After),
 }
 
 /// What the screen says, and every lent element afterwards.
@@ -58,6 +60,7 @@ pub fn answer(request: Option<&Request>) -> Reply {
         Some(Request::Slide { kind, position, used }) => Reply::Bound(slide(*kind, *position, *used)),
         Some(Request::Script { text }) => Reply::Script(script::read(text)),
         Some(Request::Write { room, lent }) => Reply::Written(page(lent, *room)),
+        Some(Request::Day { day, added, timetable }) => Reply::Day(day::after(day, *added, *timetable)),
     }
 }
 
@@ -174,6 +177,9 @@ impl Display for Reply {
             Reply::Script(Err(Refused { number, place })) => write!(f, "refused {number} {place}"),
             Reply::Written(Page { said: Ok(length), room }) => write!(f, "text {length} | {}", Spaced(room)),
             Reply::Written(Page { said: Err(number), room }) => write!(f, "refused {number} | {}", Spaced(room)),
+            Reply::Day(After { refused, entries, refused_off, timetable }) => {
+                write!(f, "day {refused} {refused_off} | {} | {}", Spaced(entries), Spaced(timetable))
+            }
         }
     }
 }

@@ -1,5 +1,6 @@
 //! The dialogue's grammar (DIALOGUE.md): a line of bytes into a request, and a request into its line.
 
+use crate::day::{Added, Day, ENTRIES};
 use crate::problem::Lent;
 use crate::slider::{Kind, Use};
 use std::fmt::{self, Display};
@@ -21,6 +22,7 @@ pub enum Request {
     Slide { kind: Kind, position: u32, used: Use },
     Script { text: Vec<u8> },
     Write { room: usize, lent: Lent },
+    Day { day: Day, added: Added, timetable: usize },
 }
 
 /// A plan request: the problem, the allowance, and how many elements of each result are lent.
@@ -47,6 +49,7 @@ pub fn request(line: &[u8]) -> Option<Request> {
         b"slide" => words.slide()?,
         b"script" => Request::Script { text: words.bytes(LONGEST_SCRIPT)? },
         b"write" => Request::Write { room: words.count(MOST_ROOM)?, lent: words.rest_of_lent(None)? },
+        b"day" => words.day()?,
         _ => return None,
     };
     words.left.is_none().then_some(request)
@@ -84,6 +87,11 @@ impl<'a> Words<'a> {
     /// A count, then as many numbers.
     fn counted<T>(&mut self, most: usize, number: fn(&[u8]) -> Option<T>) -> Option<Vec<T>> {
         let count = self.count(most)?;
+        self.numbers(count, number)
+    }
+
+    /// So many numbers.
+    fn numbers<T>(&mut self, count: usize, number: fn(&[u8]) -> Option<T>) -> Option<Vec<T>> {
         (0..count).map(|_| number(self.next()?)).collect()
     }
 
@@ -139,6 +147,15 @@ impl<'a> Words<'a> {
             _ => return None,
         };
         Some(Request::Slide { kind, position, used })
+    }
+
+    fn day(&mut self) -> Option<Request> {
+        let events = self.unsigned(u32::MAX)?;
+        let opposite = self.unsigned(1)? == 1;
+        let (x, y, c) = (signed(self.next()?)?, signed(self.next()?)?, signed(self.next()?)?);
+        let timetable = self.count(MOST_TIMES)?;
+        let day = Day { events, entries: self.numbers(ENTRIES, signed)? };
+        Some(Request::Day { day, added: Added { opposite, x, y, c }, timetable })
     }
 }
 
@@ -215,6 +232,10 @@ impl Display for Request {
             }
             Request::Script { text } => write!(f, "script {}", Counted(text)),
             Request::Write { room, lent } => write!(f, "write {room} {} {}", lent.events, Parts(lent)),
+            Request::Day { day, added: Added { opposite, x, y, c }, timetable } => {
+                let (events, opposite) = (day.events, u8::from(*opposite));
+                write!(f, "day {events} {opposite} {x} {y} {c} {timetable} {}", Spaced(&day.entries))
+            }
         }
     }
 }

@@ -79,7 +79,8 @@ impl Distances {
         (0..self.events).map(|event| column(event).fold(0, i64::min)).collect()
     }
 
-    fn least(&self, from: usize, to: usize) -> i64 {
+    /// The least sum of a path; FAR where none leads there.
+    pub fn least(&self, from: usize, to: usize) -> i64 {
         self.least[from * self.events + to]
     }
 

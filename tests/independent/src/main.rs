@@ -5,6 +5,9 @@
 mod against_itself_tests;
 mod answer;
 mod compare;
+mod day;
+#[cfg(test)]
+mod day_tests;
 #[cfg(test)]
 mod days_tests;
 mod dialogue;

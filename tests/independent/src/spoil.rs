@@ -432,7 +432,7 @@ fn lent_of(request: &mut Request) -> Option<&mut Lent> {
         | Request::Times { lent, .. }
         | Request::Lamps { lent }
         | Request::Write { lent, .. } => Some(lent),
-        Request::Slide { .. } | Request::Script { .. } => None,
+        Request::Slide { .. } | Request::Script { .. } | Request::Day { .. } => None,
     }
 }
 

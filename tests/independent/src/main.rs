@@ -7,6 +7,8 @@ mod answer;
 mod compare;
 mod day;
 #[cfg(test)]
+mod day_laws_tests;
+#[cfg(test)]
 mod day_tests;
 #[cfg(test)]
 mod days_tests;

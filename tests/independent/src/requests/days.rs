@@ -1,8 +1,9 @@
 //! The lines that every run begins with: the days of 01 and their edges, days with several reasons, an event against
-//! itself, the sliders of 01 and 02, worked scripts and texts, and the longest lines.
+//! itself, the sliders of 01 and 02, worked scripts and texts, standing days, and the longest lines.
 
 use super::against_itself;
 use super::fixed_scripts;
+use super::fixed_standing_days;
 use super::lines::long_line;
 use super::lists::rows_of_the_search;
 use super::problems::{lent, Triple};
@@ -22,6 +23,7 @@ pub fn lines() -> Vec<Vec<u8>> {
     requests.extend(sliders());
     requests.extend(fixed_scripts::requests());
     requests.extend(texts());
+    requests.extend(fixed_standing_days::requests());
     let mut lines: Vec<Vec<u8>> = requests.iter().map(|request| request.to_string().into_bytes()).collect();
     lines.push(long_line(LONGEST_LINE));
     lines.push(long_line(LONGEST_LINE + 1));

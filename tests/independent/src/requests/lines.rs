@@ -1,5 +1,6 @@
 //! Lines with something changed, most of them malformed; the grammar decides what each is.
 
+use crate::day::ENTRIES;
 use crate::dialogue::LONGEST_LINE;
 use crate::random::Random;
 use crate::reasons::ROW;
@@ -25,7 +26,7 @@ pub fn mangled(random: &mut Random, line: Vec<u8>) -> Vec<u8> {
 }
 
 /// Lines that are malformed, or nearly so, by themselves.
-const FIXED: [&[u8]; 34] = [
+const FIXED: [&[u8]; 37] = [
     b"",
     b" ",
     b"\0",
@@ -60,6 +61,9 @@ const FIXED: [&[u8]; 34] = [
     b"write -0 1 0 0",
     b"write 0055 01 00 0",
     b"write 65537 1 0 0",
+    b"day",
+    b"day 1 0 0 0 0 0",
+    b"day 1 0 0 0 0 0 0",
 ];
 
 /// Numbers that one type or another does not hold, and words that are no numbers.
@@ -161,6 +165,7 @@ fn change_count(random: &mut Random, words: &mut Words) {
             zeros(&format!("write {room} 1"), &[random.among(&[255, 256, 257]), random.among(&[64, 65])])
         }
         b"lamps" => zeros("lamps 1", &[random.among(&[255, 256, 257]), random.among(&[64, 65])]),
+        b"day" => day_at_limits(random),
         _ => format!("slide {} 0 {} 0 {}", random.below(4), random.below(2), random.below(3)),
     };
     *words = vec![line.into_bytes()];
@@ -171,6 +176,14 @@ fn plan_at_limits(random: &mut Random) -> String {
     zeros(&format!("plan 1 9 {lent}"), &[random.among(&[256, 257, 0]), random.among(&[64, 65, 0])])
 }
 
+/// As many timetable elements, entries and ways to add as there may be, or one more; or an entry fewer.
+fn day_at_limits(random: &mut Random) -> String {
+    let added = random.among(&["0 0 0 0", "1 0 0 0", "2 0 0 0", "1 -0 -0 -0", "-0 0 0 0"]);
+    let timetable = random.among(&["64", "064", "65", "-0"]);
+    let entries = random.among(&[ENTRIES - 1, ENTRIES, ENTRIES, ENTRIES, ENTRIES + 1]);
+    format!("day 1 {added} {timetable}{}", " 0".repeat(entries))
+}
+
 /// The front, then for each count the count and as many zeros.
 fn zeros(front: &str, counts: &[usize]) -> String {
     let list = |count: &usize| format!(" {count}{}", " 0".repeat(*count));
@@ -179,8 +192,8 @@ fn zeros(front: &str, counts: &[usize]) -> String {
 
 fn change_name(random: &mut Random, words: &mut Words) {
     let names = [
-        "plan", "reasons", "times", "lamps", "slide", "script", "write", "Plan", "pla", "plans", "", "lamp", "none",
-        "scripts", "writes", "text",
+        "plan", "reasons", "times", "lamps", "slide", "script", "write", "day", "Plan", "pla", "plans", "", "lamp",
+        "none", "scripts", "writes", "text", "days", "Day",
     ];
     words[0] = random.among(&names).into();
 }

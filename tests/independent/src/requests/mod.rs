@@ -1,11 +1,13 @@
 //! Requests: random ones of every kind, made from a seed, after the worked days.
 
 mod against_itself;
+mod altered_tables;
 pub mod bench;
 mod cycles;
 pub mod days;
 mod drafts;
 mod fixed_scripts;
+mod fixed_standing_days;
 mod lines;
 mod lists;
 mod names;
@@ -16,6 +18,8 @@ mod rings;
 pub mod scripts;
 mod sliders;
 mod spoiled;
+pub mod standing_days;
+mod tables;
 pub mod texts;
 mod writing;
 
@@ -28,28 +32,31 @@ use crate::random::Random;
 use crate::reasons::ROW;
 use crate::search::{search, Ending, Outcome};
 
-/// Makes the request lines of one seed: first the days, then random ones, without end.
+/// Makes the request lines of one seed: first the days, then random ones, without end. Those for standing days, which are
+/// long, are one in twelve, and come from a source of their own.
 pub struct Maker {
     random: Random,
+    random_days: Random,
     days: std::vec::IntoIter<Vec<u8>>,
 }
 
 impl Maker {
     pub fn new(seed: u64) -> Maker {
-        Maker { random: Random::new(seed), days: days::lines().into_iter() }
+        Maker { random: Random::new(seed), random_days: Random::new(!seed), days: days::lines().into_iter() }
     }
 
     /// The next request line, without its line feed.
     pub fn next(&mut self) -> Vec<u8> {
         match self.days.next() {
             Some(line) => line,
-            None => random_line(&mut self.random),
+            None if self.random_days.one_in(12) => random_line(&mut self.random_days, standing_days::request),
+            None => random_line(&mut self.random, random_request),
         }
     }
 }
 
-fn random_line(random: &mut Random) -> Vec<u8> {
-    let line = random_request(random).to_string().into_bytes();
+fn random_line(random: &mut Random, request: fn(&mut Random) -> Request) -> Vec<u8> {
+    let line = request(random).to_string().into_bytes();
     if random.one_in(12) {
         lines::mangled(random, line)
     } else {

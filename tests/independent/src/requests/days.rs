@@ -25,8 +25,10 @@ pub fn lines() -> Vec<Vec<u8>> {
     requests.extend(texts());
     requests.extend(fixed_standing_days::requests());
     let mut lines: Vec<Vec<u8>> = requests.iter().map(|request| request.to_string().into_bytes()).collect();
+    lines.extend(fixed_standing_days::lines().into_iter().map(String::into_bytes));
     lines.push(long_line(LONGEST_LINE));
     lines.push(long_line(LONGEST_LINE + 1));
+    lines.push(b"lamps 1 0 0\r".to_vec());
     lines.push(b"lamps 1 0 0".to_vec());
     lines
 }

@@ -9,6 +9,9 @@ const FAR: i32 = FARTHEST_DISTANCE as i32;
 const BOUND: i32 = FARTHEST_BOUND as i32;
 const LAST: usize = MOST_EVENTS - 1;
 
+/// Words at the ends of the numbers' ranges or past them, with signs and zeros; the first is empty.
+const WORDS: &str = " - -0 00 +0 -1 2 64 65 2147483648 -2147483648 -2147483649 4294967296";
+
 /// A row, a column and the entry that stands there.
 type Entry = (usize, usize, i32);
 
@@ -21,6 +24,20 @@ pub fn requests() -> Vec<Request> {
     requests.extend(results());
     requests.extend(with_two_faults());
     requests
+}
+
+/// Lines with one word put in the place of another, most of them malformed: at the ends of each number's range, with a
+/// sign or zeros; and with an entry more and one fewer.
+pub fn lines() -> Vec<String> {
+    let sound = request(day(4, &[]), at_most(2, 1, 6)).to_string();
+    let words: Vec<&str> = sound.split(' ').collect();
+    let with = |place: usize, word: &str| [&words[..place], &[word], &words[place + 1..]].concat().join(" ");
+    let last = words.len() - 1;
+    let mut lines = vec![words[..last].join(" "), format!("{sound} 0"), format!("{sound} ")];
+    for place in [1, 2, 3, 4, 5, 6, 7, last] {
+        lines.extend(WORDS.split(' ').map(|word| with(place, word)));
+    }
+    lines
 }
 
 /// The table of so many events with these entries beside the zeros.
@@ -94,17 +111,17 @@ fn tables() -> Vec<Day> {
     tables
 }
 
-/// Three of all events: a way of −30 and 20 minutes, and the entry beside it, as long, one shorter, one longer and none;
-/// and a way back, as long, one shorter and one longer.
+/// Three events in every order, alone or as the first, a middle one and the last of all: a way of −30 and 20 minutes, and
+/// the entry beside it, as long, one shorter, one longer and none; and a way back, as long, one shorter and one longer.
 fn detours() -> Vec<Day> {
-    let orders =
-        [[0, 1, 2], [2, 0, 1], [1, 2, 0], [LAST, LAST - 1, LAST - 2], [LAST - 2, LAST, LAST - 1], [0, LAST, 9]];
     let mut tables = Vec::new();
-    for [from, over, to] in orders {
-        let way = [(from, over, -30), (over, to, 20)];
-        let beside = |entry| day(MOST_EVENTS, &[way[0], way[1], (from, to, entry)]);
-        tables.extend([-10, -11, -9, NONE].map(beside));
-        tables.extend([30, 29, 31].map(|back| day(MOST_EVENTS, &[way[0], (over, from, back)])));
+    for (events, [a, b, c]) in [(3, [0, 1, 2]), (MOST_EVENTS, [0, 9, LAST])] {
+        for [from, over, to] in [[a, b, c], [a, c, b], [b, a, c], [b, c, a], [c, a, b], [c, b, a]] {
+            let way = [(from, over, -30), (over, to, 20)];
+            let beside = |entry| day(events, &[way[0], way[1], (from, to, entry)]);
+            tables.extend([-10, -11, -9, NONE].map(beside));
+            tables.extend([30, 29, 31].map(|back| day(events, &[way[0], (over, from, back)])));
+        }
     }
     tables
 }

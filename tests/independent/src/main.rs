@@ -33,6 +33,7 @@ mod shortest;
 mod shortest_tests;
 mod slider;
 mod spoil;
+mod spoil_day;
 mod text;
 #[cfg(test)]
 mod text_tests;

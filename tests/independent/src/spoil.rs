@@ -1,6 +1,7 @@
-//! Ways of answering wrongly, to see that each is noticed (check-the-checker).
+//! Ways of answering wrongly, to see that each is noticed (check-the-checker); those for days are in spoil_day.rs.
 
 use crate::answer::{accepted, answer, Answer, Reply, Screen};
+use crate::day::Added;
 use crate::dialogue::{request, Request};
 use crate::facts::{members, Numbers};
 use crate::problem::{Lent, Problem, Refusal, AGAINST_ITSELF, FARTHEST_BOUND};
@@ -11,6 +12,7 @@ use crate::search::Row;
 use crate::serve;
 use crate::shortest::Walks;
 use crate::slider::Use;
+use crate::spoil_day;
 use crate::text::{self, Page, LONGER_THAN_ROOM};
 use std::ops::RangeInclusive;
 
@@ -27,7 +29,7 @@ enum Way {
 
 type Bytes = [u8; ROW];
 
-const WAYS: [(&str, Way); 97] = [
+const WAYS: [(&str, Way); 100] = [
     ("visits one more", Way::Screen(|_, screen| change_numbers(screen, |visits, _, _| *visits += 1))),
     (
         "before one less",
@@ -228,25 +230,39 @@ const WAYS: [(&str, Way); 97] = [
     ("write: 21 that leaves the text's front", Way::Reply(front_left)),
     ("write: 21 before 6", Way::Reply(room_before_bounds)),
     ("write: 21 before all others where there is no room", Way::Reply(|_, reply| no_room_first(reply))),
+    (
+        "day: the opposite added for the alternative",
+        Way::Request(|request| change_added(request, |added| added.opposite = !added.opposite)),
+    ),
+    (
+        "day: x and y exchanged",
+        Way::Request(|request| change_added(request, |added| std::mem::swap(&mut added.x, &mut added.y))),
+    ),
     ("a plus sign taken", Way::Line(|line| line.iter().copied().filter(|byte| *byte != b'+').collect())),
     ("a carriage return taken", Way::Line(|line| line.strip_suffix(b"\r").unwrap_or(line).to_vec())),
     ("malformed answered as refused", Way::Texts(|_, text| vec![text.replace("malformed", "refused 1")])),
+    ("a space missing at a reply's end", Way::Texts(|_, text| vec![text.trim_end().to_string()])),
     ("a reply missing", Way::Texts(|number, text| if number == 2_000 { vec![] } else { vec![text] })),
     ("a space at a reply's end", Way::Texts(|number, text| vec![if number == 2_000 { text + " " } else { text }])),
 ];
 
-/// The ways' names, in order; the first is way 1.
+/// The ways' names, in order; the first is way 1, and those for days come last.
 pub fn names() -> Vec<String> {
-    WAYS.iter().map(|(name, _)| name.to_string()).collect()
+    let of_days = spoil_day::WAYS.iter().map(|(name, _)| name);
+    WAYS.iter().map(|(name, _)| name).chain(of_days).map(|name| name.to_string()).collect()
 }
 
 /// The replies to a line, spoiled in a way where that applies.
 pub fn replies(way: usize, number: usize, line: &[u8]) -> Vec<String> {
-    match WAYS.get(way.wrapping_sub(1)).map(|(_, way)| way) {
+    let place = way.wrapping_sub(1);
+    match WAYS.get(place).map(|(_, way)| way) {
         Some(Way::Line(change)) => vec![serve::reply(&change(line))],
         Some(Way::Texts(change)) => change(number, serve::reply(line)),
         Some(change) => vec![spoiled_reply(change, line)],
-        None => vec![serve::reply(line)],
+        None => match spoil_day::WAYS.get(place.wrapping_sub(WAYS.len())) {
+            Some((_, change)) => vec![spoil_day::reply(*change, line)],
+            None => vec![serve::reply(line)],
+        },
     }
 }
 
@@ -563,6 +579,13 @@ fn bounds(lent: &mut Lent) -> impl Iterator<Item = &mut i32> {
 fn change_text(request: &mut Request, change: fn(&mut Vec<u8>)) {
     if let Request::Script { text } = request {
         change(text);
+    }
+}
+
+/// Changes what is to be added to a day.
+fn change_added(request: &mut Request, change: fn(&mut Added)) {
+    if let Request::Day { added, .. } = request {
+        change(added);
     }
 }
 

@@ -1,5 +1,6 @@
 // The shortest distance between every pair of events, or none, under the facts so far (02, A8; 002), in naturals and in a lent slice: the
 // table from place `base` on has its entry [u][v] at base + u * w + v, a distance z as z + 2,300,024.
+#![tactic(auto)]
 ghost use Rattle.std.specs.Prelude.{◌≡◌, true, List, ◌∷◌, ℕ, ◌+◌, ◌-◌, ◌*◌, ◌<◌, ◌≤◌, max, leb, length, take};
 ghost use Rattle.meaning.specs.Limits.{most_events};
 ghost use Rattle.meaning.specs.Problem.{Alternative};

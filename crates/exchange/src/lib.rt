@@ -1,4 +1,5 @@
 // The exchange of lines: the parts of a request read into lent memory, and replies written into a lent buffer.
+#![tactic(auto)]
 mod replies;
 mod requests;
 

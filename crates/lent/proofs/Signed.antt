@@ -11,7 +11,7 @@ use Rattle.laws.proofs.Differences.{Minus, below, above, minus, sub_is}
 
 -- an element of a slice of i32, back from its bits
 pub element : (z : ℤ) → mag z < 2 ^ 31 → to_z w32 (of_z w32 z) ≡ z
-element z h = to_z-of_z (record { sfits = h })
+element z h = to_z-of_z {w = w32} (record { sfits = h })
 
 -- a signed result that is a natural number: it fits, and comes back from its bits
 pub sfits_pos : (w : Width) (z : ℤ) (b : ℕ) → z ≡ pos b → b < 2 ^ hbits w → SFits w z
@@ -60,4 +60,4 @@ mag-below a b {m} h k = rw (sub_is a b) (go (minus a b))
 
 -- from 32 bits to 64 and back
 pub through : {z : ℤ} → SFits w32 z → to_z w64 (of_z w64 (to_z w32 (of_z w32 z))) ≡ z
-through h = rw (to_z-of_z h) (to_z-of_z (sfits_widen tt h))
+through h = rw (to_z-of_z {w = w32} h) (to_z-of_z {w = w64} (sfits_widen {w = w32} {w' = w64} (tt {0}) h))

@@ -18,6 +18,7 @@ use Rattle.meaning.proofs.Ways.{Way, rise, fall, loops-loop, loop-loops}
 use Rattle.meaning.proofs.Reasoning.{shortest-is, shortest-one}
 
 pub each_member : (P : Alternative → Type 0) (fs : List Alternative) (a : Alternative) → Each P fs → Memᴰ a fs → P a
+each_member P [] a h m = elim m [ ]
 each_member P (b ∷ fs) a h (Memᴰ.head e) = subst P (sym e) h.0
 each_member P (b ∷ fs) a h (Memᴰ.tail m) = each_member P fs a h.1 m
 

@@ -1,5 +1,6 @@
 // What the planner's operations answer: 01, "What the screen may say", "The list of reasons" and "Lamps and sliders".
 // The crate is for its definitions (specs) and what is shown of them (proofs); these types are what both speak of.
+#![tactic(auto)]
 
 // The five cases of "What the screen may say".
 #[derive(Drop)]

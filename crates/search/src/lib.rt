@@ -1,4 +1,5 @@
 // The quick search as a step over a place, run until it ends.
+#![tactic(auto)]
 mod listing;
 mod places;
 mod standing;

@@ -1,4 +1,5 @@
 // The standing day of 02, A8: a day that follows the slider, one fact after another.
+#![tactic(auto)]
 mod adding;
 mod check;
 mod lying;

@@ -7,12 +7,8 @@ use Rattle.grammar.specs.Automaton.{role_in}
 use Rattle.grammar.proofs.Same.{both, kept, by_number, kind_no, same}
 use Rattle.grammar.proofs.Alike.{samples, sample_of, agree, alike}
 use Rattle.grammar.proofs.Entries.{every, is_class, is_next, is_row, are_rows, numbered, passes, is-table}
-use Rattle.grammar.proofs.automaton.table.Statement.{statement}
-use Rattle.grammar.proofs.automaton.table.Tie as tie
+use Rattle.grammar.proofs.automaton.table.Goals as goal
 
-returns : tie.Need-returns
+pub returns : goal.returns
 unfolding passes numbered are_rows is_row is_next is_class every same both kept by_number kind_no agree alike samples sample_of role_in grown origins states role_no ends live follow is_none choose after role_of bytes among is_a spelled blank gap parting opening closing_as symbol_as numeral_as bound difference atom optional held declared command set_logic check_sat script
 returns c = is-table _ refl tt
-
-pub table-spec : {M : Type 1} → statement M
-table-spec = tie.close (tie.spec returns)

@@ -1,0 +1,31 @@
+-- `put_numbers` meets its contract: writing what remains of the list gives the same buffer. Assumes nothing.
+use Prim.Native.Nat.{◌≤◌, ◌-◌}
+use mathlib.Core.Path.{◌≡◌, refl, sym, ◌∙◌}
+use mathlib.Core.List.{map}
+use native.Mathlib.Omega.{arith}
+use borrow.Author.Rules.{rules}
+use lib.ListN.{length, drop}
+use Rattle.dialogue.specs.Written.{written, written_to, led, decimal}
+use Rattle.dialogue.proofs.Buffers.{led-written, led-to, led-end, led-end-to}
+use Rattle.dialogue.proofs.writing.put_numbers.Goals as goal
+
+pub loop-i-init : goal.loop-i-init
+loop-i-init c = (omega arith, (refl, (refl, refl)))
+
+pub overflow_cast-list : goal.overflow_cast-list
+overflow_cast-list c = omega (arith, c.type_inv.list c.loop-i.i)
+
+pub loop-i-preserved : goal.loop-i-preserved
+loop-i-preserved c =
+    let l = c.loop-i in
+    let s = c.args.list.now in
+    (omega arith, (search rules, (l.invariant.1.1.0 ∙ led-written decimal s l.i 0 (omega arith) l.out c.put-to.new.out c.put_number-to.new.out l.to c.put-to.result c.put_number-to.result c.put-to.ensures.out_after c.put-to.ensures.value c.put_number-to.ensures.out_after c.put_number-to.ensures.value, l.invariant.1.1.1 ∙ led-to decimal s l.i 0 (omega arith) l.out c.put-to.new.out c.put_number-to.new.out l.to c.put-to.result c.put_number-to.result c.put-to.ensures.out_after c.put-to.ensures.value c.put_number-to.ensures.out_after c.put_number-to.ensures.value)))
+
+pub returns : goal.returns
+returns c =
+    let l = c.loop-i in
+    let s = c.args.list.now in
+    record {
+      out_after = sym (l.invariant.1.1.0 ∙ led-end decimal s l.i (omega arith) l.out l.to);
+      value = sym (l.invariant.1.1.1 ∙ led-end-to decimal s l.i (omega arith) l.out l.to);
+    }

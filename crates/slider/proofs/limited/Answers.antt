@@ -1,0 +1,39 @@
+-- `slider::limited` meets its contract. Assumes nothing.
+use borrow.Author.Rules.{rules}
+use mathlib.Core.Path.{◌≡◌, sym, ap, ◌∙◌, subst}
+use mathlib.Core.Logic.{⊎_elim}
+use mathlib.Core.Bool.{Bool, true, false}
+use Prim.Native.Nat.{ℕ, ◌+◌, ◌≤◌, ◌<◌}
+use lib.IntN.{ℤ}
+use mir.Syntax.{w32}
+use mir.Val.{to_z, of_z}
+use Rattle.slider.specs.declared.SliderAnswer.TheVariants.{Bound}
+use Rattle.slider.specs.Readings.{signed, pick}
+use Rattle.slider.specs.Slider.{told, bound_limit}
+use Rattle.slider.proofs.Word.{near_word, signed-near}
+use Rattle.slider.proofs.Bounds.{far-refused, near-taken}
+use Rattle.slider.proofs.limited.Goals as goal
+use Rattle.slider.proofs.limited.Goals.{then-more, else-more}
+
+abbrev size_of : Bool → ℕ → ℕ
+size_of more whole = pick more (whole + 1) whole
+
+pub returns-then-n-gt-BOUND_LIMIT : goal.returns-then-n-gt-BOUND_LIMIT
+returns-then-n-gt-BOUND_LIMIT c =
+    let by : (more : Bool) → c.args.more ≡ more → size_of more c.args.whole ≡ size_of c.args.more c.args.whole = λ more e. ap (λ (t : Bool). size_of t c.args.whole) (sym e) in
+    let size_is : c.if-more.n ≡ size_of c.args.more c.args.whole = elim c.if-more.branch [ then-more w ↦ w.n-is ∙ by true w.if-more.true | else-more w ↦ w.n-is ∙ by false w.if-more.false ] in
+    let a = c.args in
+    let far = subst (λ (n : ℕ). bound_limit < n) size_is c.if-n-gt-BOUND_LIMIT.true in
+    ap told (sym (far-refused a.neg (size_of a.more a.whole) far))
+
+pub returns : goal.returns
+returns c =
+    let by : (more : Bool) → c.args.more ≡ more → size_of more c.args.whole ≡ size_of c.args.more c.args.whole = λ more e. ap (λ (t : Bool). size_of t c.args.whole) (sym e) in
+    let size_is : c.if-more.n ≡ size_of c.args.more c.args.whole = elim c.if-more.branch [ then-more w ↦ w.n-is ∙ by true w.if-more.true | else-more w ↦ w.n-is ∙ by false w.if-more.false ] in
+    let a = c.args in
+    let n = size_of a.more a.whole in
+    let near : n ≤ bound_limit = subst (λ (k : ℕ). k ≤ bound_limit) size_is c.if-n-gt-BOUND_LIMIT.false in
+    ap Bound
+    (ap (λ (z : ℤ). to_z w32 (of_z w32 z)) (c.signed_of.ensures ∙ ap (signed a.neg) size_is)
+    ∙ near_word (signed a.neg n) (signed-near a.neg n near))
+    ∙ ap told (sym (near-taken a.neg n near))

@@ -88,9 +88,11 @@ to-then (x ∷ s) zero (b ∷ t) u = ap suc (to-then s zero t u)
 to-then (x ∷ s) (suc at) t u = ap suc (to-then s at t u)
 
 -- the same of what two calls left
-pub after : {s₁ s₂ : List ℕ} {at₁ at₂ : ℕ} (s : List ℕ) (at : ℕ) (t u : List ℕ) → (s₁ ≡ written s at t) × (at₁ ≡ written_to s at t)
-    → (s₂ ≡ written s₁ at₁ u) × (at₂ ≡ written_to s₁ at₁ u) → (s₂ ≡ written s at (t ++ u)) × (at₂ ≡ written_to s at (t ++ u))
-after s at t u p q = (q.0 ∙ rw (p.0, p.1) (written_then s at t u), q.1 ∙ rw (p.0, p.1) (to-then s at t u))
+pub after : {s₁ s₂ : List ℕ} {at₁ at₂ : ℕ} (s : List ℕ) (at : ℕ) (t u : List ℕ) → record { after : s₁ ≡ written s at t; value : at₁ ≡ written_to s at t } → record { after : s₂ ≡ written s₁ at₁ u; value : at₂ ≡ written_to s₁ at₁ u } → record { after : s₂ ≡ written s at (t ++ u); value : at₂ ≡ written_to s at (t ++ u) }
+after s at t u p q = record {
+  after = q.after ∙ rw (p.after, p.value) (written_then s at t u);
+  value = q.value ∙ rw (p.after, p.value) (to-then s at t u);
+}
 
 -- what a call wrote is the first of two texts, and the second remains
 pub first : {s₁ : List ℕ} {at₁ : ℕ} (s : List ℕ) (at : ℕ) (t u : List ℕ) → (s₁ ≡ written s at t) × (at₁ ≡ written_to s at t)

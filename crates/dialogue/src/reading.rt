@@ -9,35 +9,35 @@ const SPACE: u8 = 32;
 const MINUS: u8 = 45;
 
 // An unsigned number that a word spells.
-#[derive(Drop)]
+#[derive(Clone, Copy)]
 pub enum Number {
     Of(u32),
     Malformed,
 }
 
 // A signed number that a word spells.
-#[derive(Drop)]
+#[derive(Clone, Copy)]
 pub enum Signed {
     Of(i32),
     Malformed,
 }
 
 // An unsigned number that the next word of a line spells, and the place after that word.
-#[derive(Drop)]
+#[derive(Clone, Copy)]
 pub enum Next {
     Of { value: u32, place: usize },
     Malformed,
 }
 
 // The same of a signed number.
-#[derive(Drop)]
+#[derive(Clone, Copy)]
 pub enum NextSigned {
     Of { value: i32, place: usize },
     Malformed,
 }
 
 // The place after a list of numbers.
-#[derive(Drop)]
+#[derive(Clone, Copy)]
 pub enum Listed {
     Up(usize),
     Malformed,
@@ -155,7 +155,7 @@ pub fn signed_at(line: &[u8], at: usize) -> NextSigned
 // As many unsigned numbers as `out` holds, each led by a space, from `at` on.
 pub fn list_numbers(line: &[u8], at: usize, out: &mut [u32]) -> Listed
     ensures value { result ≡ as_listed (after_list (unsigned_of 0xffffffff) line.now at out.old) }
-    ensures out_after { out.new ≡ list_from (unsigned_of 0xffffffff) line.now at out.old }
+    ensures after { out.new ≡ list_from (unsigned_of 0xffffffff) line.now at out.old }
 {
     let mut to = at;
     let mut i = 0;
@@ -177,7 +177,7 @@ pub fn list_numbers(line: &[u8], at: usize, out: &mut [u32]) -> Listed
 // The same for bytes.
 pub fn list_bytes(line: &[u8], at: usize, out: &mut [u8]) -> Listed
     ensures value { result ≡ as_listed (after_list (unsigned_of 255) line.now at out.old) }
-    ensures out_after { out.new ≡ list_from (unsigned_of 255) line.now at out.old }
+    ensures after { out.new ≡ list_from (unsigned_of 255) line.now at out.old }
 {
     let mut to = at;
     let mut i = 0;
@@ -199,7 +199,7 @@ pub fn list_bytes(line: &[u8], at: usize, out: &mut [u8]) -> Listed
 // The same for signed numbers.
 pub fn list_signed(line: &[u8], at: usize, out: &mut [i32]) -> Listed
     ensures value { result ≡ as_listed (after_list signed_of line.now at out.old) }
-    ensures out_after { out.new ≡ list_from signed_of line.now at out.old }
+    ensures after { out.new ≡ list_from signed_of line.now at out.old }
 {
     let mut to = at;
     let mut i = 0;

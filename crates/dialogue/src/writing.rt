@@ -5,7 +5,7 @@ ghost use Rattle.dialogue.specs.Written.{written, written_to, decimal, signed_de
 
 // The bytes of `text`, as far as there is room.
 pub fn put(out: &mut [u8], at: usize, text: &[u8]) -> usize
-    ensures out_after { out.new ≡ written out.old at text.now }
+    ensures after { out.new ≡ written out.old at text.now }
     ensures value { result ≡ written_to out.old at text.now }
 {
     let mut to = at;
@@ -23,7 +23,7 @@ pub fn put(out: &mut [u8], at: usize, text: &[u8]) -> usize
 
 // A number in decimal.
 pub fn put_number(out: &mut [u8], at: usize, n: u64) -> usize
-    ensures out_after { out.new ≡ written out.old at (decimal n) }
+    ensures after { out.new ≡ written out.old at (decimal n) }
     ensures value { result ≡ written_to out.old at (decimal n) }
 {
     let mut text = [0u8; 20];
@@ -44,7 +44,7 @@ pub fn size(z: i32) -> u64
 
 // A signed number in decimal.
 pub fn put_signed(out: &mut [u8], at: usize, z: i32) -> usize
-    ensures out_after { out.new ≡ written out.old at (signed_decimal z) }
+    ensures after { out.new ≡ written out.old at (signed_decimal z) }
     ensures value { result ≡ written_to out.old at (signed_decimal z) }
 {
     let n = size(z);
@@ -58,7 +58,7 @@ pub fn put_signed(out: &mut [u8], at: usize, z: i32) -> usize
 
 // The numbers of a list, each led by a space.
 pub fn put_numbers(out: &mut [u8], at: usize, list: &[u32]) -> usize
-    ensures out_after { out.new ≡ written out.old at (led (map decimal list.now)) }
+    ensures after { out.new ≡ written out.old at (led (map decimal list.now)) }
     ensures value { result ≡ written_to out.old at (led (map decimal list.now)) }
 {
     let mut to = at;
@@ -73,7 +73,7 @@ pub fn put_numbers(out: &mut [u8], at: usize, list: &[u32]) -> usize
 
 // The same for bytes.
 pub fn put_bytes(out: &mut [u8], at: usize, list: &[u8]) -> usize
-    ensures out_after { out.new ≡ written out.old at (led (map decimal list.now)) }
+    ensures after { out.new ≡ written out.old at (led (map decimal list.now)) }
     ensures value { result ≡ written_to out.old at (led (map decimal list.now)) }
 {
     let mut to = at;
@@ -88,7 +88,7 @@ pub fn put_bytes(out: &mut [u8], at: usize, list: &[u8]) -> usize
 
 // The same for signed numbers.
 pub fn put_times(out: &mut [u8], at: usize, list: &[i32]) -> usize
-    ensures out_after { out.new ≡ written out.old at (led (map signed_decimal list.now)) }
+    ensures after { out.new ≡ written out.old at (led (map signed_decimal list.now)) }
     ensures value { result ≡ written_to out.old at (led (map signed_decimal list.now)) }
 {
     let mut to = at;

@@ -51,11 +51,14 @@ far-at-most e h = rw e (most h)
 -- ---- the shorter of two
 pub shorter-first : (d e : Distance) {s : ℤ} → AtMost d s → AtMost (shorter d e) s
 unfolding shorter
+shorter-first none e {s = s} x' = elim x' [ ]
 shorter-first (far a) none (most h) = most h
 shorter-first (far a) (far b) (most h) = most (≤ℤ-trans (lesser-first a b) h)
 
 pub shorter-second : (d e : Distance) {s : ℤ} → AtMost e s → AtMost (shorter d e) s
 unfolding shorter
+shorter-second none none {s = s} x'' = elim x'' [ ]
+shorter-second (far a) none {s = s} x3 = elim x3 [ ]
 shorter-second none (far b) (most h) = most h
 shorter-second (far a) (far b) (most h) = most (≤ℤ-trans (lesser-second a b) h)
 
@@ -79,6 +82,8 @@ shorter-either d e {s} h = go (shorter-is d e)
 -- ---- the way over a fact
 pub over-at-most : (d : Distance) (c : ℤ) (e : Distance) {p q : ℤ} → AtMost d p → AtMost e q → AtMost (over d c e) (p +ℤ c +ℤ q)
 unfolding and_then
+over-at-most none c e {p = p} {q = q} x'' _ = elim x'' [ ]
+over-at-most (far a) c none {p = p} {q = q} _ x6 = elim x6 [ ]
 over-at-most (far a) c (far b) (most h) (most k) = most (+ℤ-mono (+ℤ-mono h (≤ℤ_refl c)) k)
 
 pub over-far : (d : Distance) (c : ℤ) (e : Distance) {z : ℤ} → over d c e ≡ far z → (p : ℤ) × (q : ℤ) × (d ≡ far p) × (e ≡ far q) × (z ≡ p +ℤ c +ℤ q)

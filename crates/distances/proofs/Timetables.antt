@@ -30,6 +30,7 @@ nearer-old (far a) z = lesser-second a z
 
 nearer-new : (d : Distance) (z : ℤ) {s : ℤ} → AtMost d s → nearer d z ≤ℤ s
 unfolding nearer
+nearer-new none z {s = s} x' = elim x' [ ]
 nearer-new (far a) z (most h) = ≤ℤ-trans (lesser-first a z) h
 
 nearer-is : (d : Distance) (z : ℤ) → (nearer d z ≡ z) ⊎ (d ≡ far (nearer d z))

@@ -12,7 +12,7 @@ const WITH_PLACE: u8 = 20;
 
 // A space and a number.
 fn put_next(reply: &mut [u8], at: usize, n: u64) -> usize
-    ensures reply_after { reply.new ≡ written reply.old at (next n) }
+    ensures after { reply.new ≡ written reply.old at (next n) }
     ensures value { result ≡ written_to reply.old at (next n) }
 {
     let to = put(reply, at, b" ");
@@ -21,7 +21,7 @@ fn put_next(reply: &mut [u8], at: usize, n: u64) -> usize
 
 // A word and two numbers, as visits and before.
 fn put_two(reply: &mut [u8], word: &[u8], visits: u64, before: u64) -> usize
-    ensures reply_after { reply.new ≡ written reply.old 0 (with_two word.now visits before) }
+    ensures after { reply.new ≡ written reply.old 0 (with_two word.now visits before) }
     ensures value { result ≡ written_to reply.old 0 (with_two word.now visits before) }
 {
     let to = put(reply, 0, word);
@@ -31,7 +31,7 @@ fn put_two(reply: &mut [u8], word: &[u8], visits: u64, before: u64) -> usize
 
 // A word, visits, before and rows.
 fn put_three(reply: &mut [u8], word: &[u8], visits: u64, before: u64, rows: u64) -> usize
-    ensures reply_after { reply.new ≡ written reply.old 0 (with_three word.now visits before rows) }
+    ensures after { reply.new ≡ written reply.old 0 (with_three word.now visits before rows) }
     ensures value { result ≡ written_to reply.old 0 (with_three word.now visits before rows) }
 {
     let to = put_two(reply, word, visits, before);
@@ -40,7 +40,7 @@ fn put_three(reply: &mut [u8], word: &[u8], visits: u64, before: u64, rows: u64)
 
 // A refusal and its number.
 pub fn put_refused(reply: &mut [u8], number: u8) -> usize
-    ensures reply_after { reply.new ≡ written reply.old 0 (refused_text number) }
+    ensures after { reply.new ≡ written reply.old 0 (refused_text number) }
     ensures value { result ≡ written_to reply.old 0 (refused_text number) }
 {
     let to = put(reply, 0, b"refused");
@@ -49,7 +49,7 @@ pub fn put_refused(reply: &mut [u8], number: u8) -> usize
 
 // What the screen says, without the lent memory.
 pub fn put_answer(reply: &mut [u8], answer: Answer) -> usize
-    ensures reply_after { reply.new ≡ written reply.old 0 (answer_text answer) }
+    ensures after { reply.new ≡ written reply.old 0 (answer_text answer) }
     ensures value { result ≡ written_to reply.old 0 (answer_text answer) }
 {
     match answer {
@@ -71,7 +71,7 @@ pub fn put_answer(reply: &mut [u8], answer: Answer) -> usize
 
 // A bar, and a space where the list after it is empty: the numbers of a list are each led by a space.
 fn put_bar(reply: &mut [u8], at: usize, length: usize) -> usize
-    ensures reply_after { reply.new ≡ written reply.old at (bar length) }
+    ensures after { reply.new ≡ written reply.old at (bar length) }
     ensures value { result ≡ written_to reply.old at (bar length) }
 {
     if 0 < length {
@@ -83,7 +83,7 @@ fn put_bar(reply: &mut [u8], at: usize, length: usize) -> usize
 
 // The bytes of lent room, led by a bar.
 pub fn put_room(reply: &mut [u8], at: usize, room: &[u8]) -> usize
-    ensures reply_after { reply.new ≡ written reply.old at (room_text room.now) }
+    ensures after { reply.new ≡ written reply.old at (room_text room.now) }
     ensures value { result ≡ written_to reply.old at (room_text room.now) }
 {
     let to = put_bar(reply, at, room.len());
@@ -92,7 +92,7 @@ pub fn put_room(reply: &mut [u8], at: usize, room: &[u8]) -> usize
 
 // The numbers of a signed list, led by a bar.
 fn put_times(reply: &mut [u8], at: usize, times: &[i32]) -> usize
-    ensures reply_after { reply.new ≡ written reply.old at (times_text times.now) }
+    ensures after { reply.new ≡ written reply.old at (times_text times.now) }
     ensures value { result ≡ written_to reply.old at (times_text times.now) }
 {
     let to = put_bar(reply, at, times.len());
@@ -107,7 +107,7 @@ pub fn put_lent(
     picks: &[u8],
     reasons: &[u8],
 ) -> usize
-    ensures reply_after { reply.new ≡ written reply.old at (lent_text timetable.now picks.now reasons.now) }
+    ensures after { reply.new ≡ written reply.old at (lent_text timetable.now picks.now reasons.now) }
     ensures value { result ≡ written_to reply.old at (lent_text timetable.now picks.now reasons.now) }
 {
     let to = put_times(reply, at, timetable);
@@ -117,7 +117,7 @@ pub fn put_lent(
 
 // What a reader says.
 pub fn put_verdict(reply: &mut [u8], verdict: Verdict) -> usize
-    ensures reply_after { reply.new ≡ written reply.old 0 (verdict_text verdict) }
+    ensures after { reply.new ≡ written reply.old 0 (verdict_text verdict) }
     ensures value { result ≡ written_to reply.old 0 (verdict_text verdict) }
 {
     match verdict {
@@ -129,7 +129,7 @@ pub fn put_verdict(reply: &mut [u8], verdict: Verdict) -> usize
 
 // The lit lamps per clause.
 fn put_each(reply: &mut [u8], at: usize, each: [u32; 32]) -> usize
-    ensures reply_after { reply.new ≡ written reply.old at (led (map decimal each)) }
+    ensures after { reply.new ≡ written reply.old at (led (map decimal each)) }
     ensures value { result ≡ written_to reply.old at (led (map decimal each)) }
 {
     dialogue::put_numbers(reply, at, &each)
@@ -137,7 +137,7 @@ fn put_each(reply: &mut [u8], at: usize, each: [u32; 32]) -> usize
 
 // The lamp panel.
 pub fn put_panel(reply: &mut [u8], panel: Panel) -> usize
-    ensures reply_after { reply.new ≡ written reply.old 0 (panel_text panel) }
+    ensures after { reply.new ≡ written reply.old 0 (panel_text panel) }
     ensures value { result ≡ written_to reply.old 0 (panel_text panel) }
 {
     let to = put(reply, 0, b"lamps");
@@ -151,7 +151,7 @@ pub fn put_panel(reply: &mut [u8], panel: Panel) -> usize
 
 // A slider's bound.
 pub fn put_bound(reply: &mut [u8], answer: SliderAnswer) -> usize
-    ensures reply_after { reply.new ≡ written reply.old 0 (bound_text answer) }
+    ensures after { reply.new ≡ written reply.old 0 (bound_text answer) }
     ensures value { result ≡ written_to reply.old 0 (bound_text answer) }
 {
     match answer {
@@ -165,7 +165,7 @@ pub fn put_bound(reply: &mut [u8], answer: SliderAnswer) -> usize
 
 // The problem that a script says: its events, its triples and its clause counts, each list led by its length.
 pub fn put_problem(reply: &mut [u8], n: u32, triples: &[i32], counts: &[u32]) -> usize
-    ensures reply_after { reply.new ≡ written reply.old 0 (problem_text n triples.now counts.now) }
+    ensures after { reply.new ≡ written reply.old 0 (problem_text n triples.now counts.now) }
     ensures value { result ≡ written_to reply.old 0 (problem_text n triples.now counts.now) }
 {
     let to = put(reply, 0, b"problem");
@@ -178,7 +178,7 @@ pub fn put_problem(reply: &mut [u8], n: u32, triples: &[i32], counts: &[u32]) ->
 
 // A script's refusal: its number and its place.
 pub fn put_refused_at(reply: &mut [u8], number: u8, place: usize) -> usize
-    ensures reply_after { reply.new ≡ written reply.old 0 (refused_at_text number place) }
+    ensures after { reply.new ≡ written reply.old 0 (refused_at_text number place) }
     ensures value { result ≡ written_to reply.old 0 (refused_at_text number place) }
 {
     let to = put_refused(reply, number);
@@ -187,7 +187,7 @@ pub fn put_refused_at(reply: &mut [u8], number: u8, place: usize) -> usize
 
 // A script's refusal as a program prints it: its number, and its place where it has one.
 pub fn put_script_refused(line: &mut [u8], number: u8, place: usize) -> usize
-    ensures line_after { line.new ≡ written line.old 0 (script_refused_text number place) }
+    ensures after { line.new ≡ written line.old 0 (script_refused_text number place) }
     ensures value { result ≡ written_to line.old 0 (script_refused_text number place) }
 {
     if number == WITH_PLACE {
@@ -199,7 +199,7 @@ pub fn put_script_refused(line: &mut [u8], number: u8, place: usize) -> usize
 
 // The length of a text that was written.
 pub fn put_length(reply: &mut [u8], length: usize) -> usize
-    ensures reply_after { reply.new ≡ written reply.old 0 (length_text length) }
+    ensures after { reply.new ≡ written reply.old 0 (length_text length) }
     ensures value { result ≡ written_to reply.old 0 (length_text length) }
 {
     let to = put(reply, 0, b"text");
@@ -208,7 +208,7 @@ pub fn put_length(reply: &mut [u8], length: usize) -> usize
 
 // A standing day after an addition: the addition's refusal or 0, that of reading the day off or 0, the day's entries and the timetable.
 pub fn put_day(reply: &mut [u8], number: u8, off: u8, entries: &[i32], timetable: &[i32]) -> usize
-    ensures reply_after { reply.new ≡ written reply.old 0 (day_text number off entries.now timetable.now) }
+    ensures after { reply.new ≡ written reply.old 0 (day_text number off entries.now timetable.now) }
     ensures value { result ≡ written_to reply.old 0 (day_text number off entries.now timetable.now) }
 {
     let to = put_two(reply, b"day", number as u64, off as u64);

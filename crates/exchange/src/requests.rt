@@ -9,14 +9,14 @@ use dialogue::{Listed, Next, NextSigned};
 const ANY: u32 = 0xffff_ffff;
 
 // A list that is led by its count: how many numbers it holds, and the place after it.
-#[derive(Drop)]
+#[derive(Clone, Copy)]
 pub enum Counted {
     Of { count: usize, place: usize },
     Malformed,
 }
 
 // A problem's two lists: how many numbers each holds, and the place after them.
-#[derive(Drop)]
+#[derive(Clone, Copy)]
 pub enum Lists {
     Of {
         triples: usize,
@@ -27,7 +27,7 @@ pub enum Lists {
 }
 
 // What a plan's request says before the lists: the events, the allowance, how many elements are lent, and the place after it.
-#[derive(Drop)]
+#[derive(Clone, Copy)]
 pub enum Head {
     Of {
         n: u32,
@@ -41,7 +41,7 @@ pub enum Head {
 }
 
 // A fact's two events and its bound, and the place after them.
-#[derive(Drop)]
+#[derive(Clone, Copy)]
 enum Fact {
     Of {
         x: i32,
@@ -54,7 +54,7 @@ enum Fact {
 
 // What a day's request says before its entries: the events, whether the opposite is meant, the fact, how many elements are lent, and the
 // place after it.
-#[derive(Drop)]
+#[derive(Clone, Copy)]
 pub enum Asked {
     Of {
         n: u32,
@@ -86,7 +86,7 @@ pub fn count_at(line: &[u8], at: usize, most: usize) -> Counted
 // A count and so many signed numbers, into the front of `out`.
 pub fn signed_list(line: &[u8], at: usize, out: &mut [i32]) -> Counted
     ensures value { result ≡ list_at signed_of line.now at out.old }
-    ensures out_after { out.new ≡ filled_at signed_of line.now at out.old }
+    ensures after { out.new ≡ filled_at signed_of line.now at out.old }
 {
     let Counted::Of { count, place } = count_at(line, at, out.len()) else {
         return Counted::Malformed;
@@ -100,7 +100,7 @@ pub fn signed_list(line: &[u8], at: usize, out: &mut [i32]) -> Counted
 // A count and so many unsigned numbers, into the front of `out`.
 fn number_list(line: &[u8], at: usize, out: &mut [u32]) -> Counted
     ensures value { result ≡ list_at number line.now at out.old }
-    ensures out_after { out.new ≡ filled_at number line.now at out.old }
+    ensures after { out.new ≡ filled_at number line.now at out.old }
 {
     let Counted::Of { count, place } = count_at(line, at, out.len()) else {
         return Counted::Malformed;
@@ -114,7 +114,7 @@ fn number_list(line: &[u8], at: usize, out: &mut [u32]) -> Counted
 // A count and so many bytes, into the front of `out`.
 pub fn byte_list(line: &[u8], at: usize, out: &mut [u8]) -> Counted
     ensures value { result ≡ list_at (unsigned_of 255) line.now at out.old }
-    ensures out_after { out.new ≡ filled_at (unsigned_of 255) line.now at out.old }
+    ensures after { out.new ≡ filled_at (unsigned_of 255) line.now at out.old }
 {
     let Counted::Of { count, place } = count_at(line, at, out.len()) else {
         return Counted::Malformed;

@@ -15,7 +15,7 @@ use rounds::{ROWS, put_rounds, rising};
 // The places of a buffer of facts: one for each alternative or its opposite, and one for an arc that is tested with them.
 pub const PLACES: usize = 65;
 
-#[derive(Drop)]
+#[derive(Clone, Copy)]
 pub struct Tested {
     pub ok: bool,
     pub times: [u32; EVENTS],

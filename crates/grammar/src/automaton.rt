@@ -282,7 +282,7 @@ const TABLE: [u8; SIZE] = *b"\
 ";
 
 // Where a byte leads: the next state, 0 where it is refused, and the number of the byte's role.
-#[derive(Drop)]
+#[derive(Clone, Copy)]
 pub struct Move {
     pub to: u8,
     pub role: u8,

@@ -7,7 +7,7 @@ use super::automaton::{SIZE, step};
 pub const START: u8 = 1;
 
 // A piece: the number of its role, the place after it, and the state there. No piece, where that place is where it began.
-#[derive(Drop)]
+#[derive(Clone, Copy)]
 pub struct Part {
     pub role: u8,
     pub to: usize,

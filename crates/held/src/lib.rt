@@ -14,7 +14,7 @@ use facts::{PLACES, Tested};
 use problem::{Problem, ROW};
 
 // Facts as arc numbers, newest first, from place `at` of the buffer on.
-#[derive(Drop)]
+#[derive(Clone, Copy)]
 pub struct Facts {
     pub buffer: [u8; PLACES],
     pub at: usize,

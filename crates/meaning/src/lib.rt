@@ -3,7 +3,7 @@
 #![tactic(auto)]
 
 // The five cases of "What the screen may say".
-#[derive(Drop)]
+#[derive(Clone, Copy)]
 pub enum Answer {
     Plan { visits: u64, before: u64 },
     None { visits: u64, before: u64, rows: u64 },
@@ -13,7 +13,7 @@ pub enum Answer {
 }
 
 // What a reader says.
-#[derive(Drop)]
+#[derive(Clone, Copy)]
 pub enum Verdict {
     Yes,
     No,
@@ -21,7 +21,7 @@ pub enum Verdict {
 }
 
 // The lamp panel: the refusal's number or 0, the lit lamps as a set, how many are lit in all and per clause, and the first lit one or 64.
-#[derive(Drop)]
+#[derive(Clone, Copy)]
 pub struct Panel {
     pub number: u8,
     pub lit: u64,

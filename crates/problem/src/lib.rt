@@ -32,7 +32,7 @@ pub const TURN: u32 = 200001;
 
 // A problem of n events and m clauses. Clause k holds alternatives starts[k] to starts[k + 1]; arc j is alternative j and arc 64 + j its
 // opposite, each with its events in xs and ys and its bound, less the bias, in bs. Unused elements are 0.
-#[derive(Drop)]
+#[derive(Clone, Copy)]
 pub struct Problem {
     pub n: usize,
     pub m: usize,
@@ -43,14 +43,14 @@ pub struct Problem {
 }
 
 // The refusal's number, or 0, with the problem.
-#[derive(Drop)]
+#[derive(Clone, Copy)]
 pub struct Checked {
     pub number: u8,
     pub problem: Problem,
 }
 
 // The arcs of a problem.
-#[derive(Drop)]
+#[derive(Clone, Copy)]
 struct Table {
     xs: [u8; ARCS],
     ys: [u8; ARCS],

@@ -32,14 +32,14 @@ const ARCS_END: u8 = 128;
 const PLACES: usize = ALTERNATIVES + 1;
 
 // The row after a reading, or a no.
-#[derive(Drop)]
+#[derive(Clone, Copy)]
 enum Next {
     Row(usize),
     No,
 }
 
 // What a row is: a cycle row, 240, 200 + d, or none of these.
-#[derive(Drop)]
+#[derive(Clone, Copy)]
 enum Mark {
     Ring,
     Onward,

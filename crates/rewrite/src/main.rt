@@ -14,7 +14,7 @@ use script::{BYTES, LONGEST_TEXT, Written};
 fn rewrite(text: &[u8], out: &mut [u8]) -> usize
     requires { longest_text ≤ length out.old }
     ensures upper_bound { result ≤ length out.old }
-    ensures out_after { take result out.new ≡ rewriting text.now }
+    ensures after { take result out.new ≡ rewriting text.now }
 {
     if BYTES < text.len() {
         return put(out, 0, b"too long\n");

@@ -18,7 +18,7 @@ pub const BYTES: usize = 65536;
 
 // What reading gives: the refusal's number, or 0, and its place; the events, the alternatives with their triples, and the clauses with
 // their counts. Unused numbers are 0, and all of them where the script is refused.
-#[derive(Drop)]
+#[derive(Clone, Copy)]
 pub struct Script {
     pub number: u8,
     pub place: usize,

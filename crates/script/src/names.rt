@@ -21,7 +21,7 @@ const KEPT: [u8; 455] =
     QF_IDL Int false or <= - ";
 
 // The names declared so far: how many, and from where to where each stands in the text.
-#[derive(Drop)]
+#[derive(Clone, Copy)]
 pub struct Names {
     pub n: usize,
     pub starts: [usize; EVENTS],

@@ -6,7 +6,7 @@ use super::Script;
 use super::plain::script_from;
 
 // A script where it lies, and a place in it.
-#[derive(Drop)]
+#[derive(Clone, Copy)]
 pub struct Reader<'a> {
     pub script: &'a [u8],
     pub at: usize,

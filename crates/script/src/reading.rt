@@ -15,7 +15,7 @@ use problem::{ALTERNATIVES, CLAUSES, EVENTS};
 const BOUND: u32 = problem::BOUND as u32;
 
 // What was read so far: the names, from where to where the name of the open declaration stands, the events of the open atom, and the rules.
-#[derive(Drop)]
+#[derive(Clone, Copy)]
 pub struct Notes {
     pub names: Names,
     pub from: usize,
@@ -26,7 +26,7 @@ pub struct Notes {
 }
 
 // The refusal's number, or 0, and its place; and what was read.
-#[derive(Drop)]
+#[derive(Clone, Copy)]
 pub struct Got {
     pub number: u8,
     pub place: usize,

@@ -9,7 +9,7 @@ use problem::{ALTERNATIVES, CLAUSES};
 pub const NUMBERS: usize = 3 * ALTERNATIVES;
 
 // How many alternatives were read, the triples of the first 64 of them, how many clauses, and their counts. Unused numbers are 0.
-#[derive(Drop)]
+#[derive(Clone, Copy)]
 pub struct Rules {
     pub many: usize,
     pub triples: [i32; NUMBERS],

@@ -9,7 +9,7 @@ use dialogue::{put, put_number, size};
 
 // The name of an event.
 fn put_name(out: &mut [u8], at: usize, e: u64) -> usize
-    ensures out_after { out.new ≡ written out.old at (name_of e) }
+    ensures after { out.new ≡ written out.old at (name_of e) }
     ensures value { result ≡ written_to out.old at (name_of e) }
 {
     let to = put(out, at, b"e");
@@ -18,7 +18,7 @@ fn put_name(out: &mut [u8], at: usize, e: u64) -> usize
 
 // The declaration of an event.
 fn put_declaration(out: &mut [u8], at: usize, e: u64) -> usize
-    ensures out_after { out.new ≡ written out.old at (declaration_of e) }
+    ensures after { out.new ≡ written out.old at (declaration_of e) }
     ensures value { result ≡ written_to out.old at (declaration_of e) }
 {
     let to = put(out, at, b"(declare-fun ");
@@ -28,7 +28,7 @@ fn put_declaration(out: &mut [u8], at: usize, e: u64) -> usize
 
 // The declarations of n events.
 fn put_declarations(out: &mut [u8], at: usize, n: u32) -> usize
-    ensures out_after { out.new ≡ written out.old at (declarations_from 0 n) }
+    ensures after { out.new ≡ written out.old at (declarations_from 0 n) }
     ensures value { result ≡ written_to out.old at (declarations_from 0 n) }
 {
     let mut to = at;
@@ -42,7 +42,7 @@ fn put_declarations(out: &mut [u8], at: usize, n: u32) -> usize
 
 // A bound.
 fn put_bound(out: &mut [u8], at: usize, c: i32) -> usize
-    ensures out_after { out.new ≡ written out.old at (bound_of c) }
+    ensures after { out.new ≡ written out.old at (bound_of c) }
     ensures value { result ≡ written_to out.old at (bound_of c) }
 {
     let value = size(c);
@@ -57,7 +57,7 @@ fn put_bound(out: &mut [u8], at: usize, c: i32) -> usize
 
 // The atom of an alternative.
 fn put_atom(out: &mut [u8], at: usize, x: i32, y: i32, c: i32) -> usize
-    ensures out_after { out.new ≡ written out.old at (atom_of (nat_abs x) (nat_abs y) c) }
+    ensures after { out.new ≡ written out.old at (atom_of (nat_abs x) (nat_abs y) c) }
     ensures value { result ≡ written_to out.old at (atom_of (nat_abs x) (nat_abs y) c) }
 {
     let to = put(out, at, b"(<= (- ");
@@ -71,7 +71,7 @@ fn put_atom(out: &mut [u8], at: usize, x: i32, y: i32, c: i32) -> usize
 
 // The atoms of the alternatives of triples, each led by a space.
 fn put_atoms(out: &mut [u8], at: usize, triples: &[i32]) -> usize
-    ensures out_after { out.new ≡ written out.old at (led (map atom_text (alternatives 0 triples.now))) }
+    ensures after { out.new ≡ written out.old at (led (map atom_text (alternatives 0 triples.now))) }
     ensures value { result ≡ written_to out.old at (led (map atom_text (alternatives 0 triples.now))) }
 {
     let many = triples.len() / 3;
@@ -93,7 +93,7 @@ fn put_atoms(out: &mut [u8], at: usize, triples: &[i32]) -> usize
 
 // What an assert holds: the alternatives of triples.
 fn put_held(out: &mut [u8], at: usize, triples: &[i32]) -> usize
-    ensures out_after { out.new ≡ written out.old at (held_of (map atom_text (alternatives 0 triples.now))) }
+    ensures after { out.new ≡ written out.old at (held_of (map atom_text (alternatives 0 triples.now))) }
     ensures value { result ≡ written_to out.old at (held_of (map atom_text (alternatives 0 triples.now))) }
 {
     let many = triples.len() / 3;
@@ -110,7 +110,7 @@ fn put_held(out: &mut [u8], at: usize, triples: &[i32]) -> usize
 
 // The assert of a clause: the alternatives of triples.
 fn put_assert(out: &mut [u8], at: usize, triples: &[i32]) -> usize
-    ensures out_after { out.new ≡ written out.old at (assert_of (alternatives 0 triples.now)) }
+    ensures after { out.new ≡ written out.old at (assert_of (alternatives 0 triples.now)) }
     ensures value { result ≡ written_to out.old at (assert_of (alternatives 0 triples.now)) }
 {
     let to = put(out, at, b"(assert ");
@@ -121,7 +121,7 @@ fn put_assert(out: &mut [u8], at: usize, triples: &[i32]) -> usize
 // The asserts of the clauses.
 fn put_asserts(out: &mut [u8], at: usize, triples: &[i32], counts: &[u32]) -> usize
     requires { T (stepped (length triples.now / 3) 0 counts.now) }
-    ensures out_after { out.new ≡ written out.old at (asserts_of (clauses_of (given 0 triples.now counts.now))) }
+    ensures after { out.new ≡ written out.old at (asserts_of (clauses_of (given 0 triples.now counts.now))) }
     ensures value { result ≡ written_to out.old at (asserts_of (clauses_of (given 0 triples.now counts.now))) }
 {
     let mut to = at;
@@ -139,7 +139,7 @@ fn put_asserts(out: &mut [u8], at: usize, triples: &[i32], counts: &[u32]) -> us
 // The whole text.
 pub fn put_text(out: &mut [u8], n: u32, triples: &[i32], counts: &[u32]) -> usize
     requires { T (stepped (length triples.now / 3) 0 counts.now) }
-    ensures out_after { out.new ≡ written out.old 0 (text_of (given n triples.now counts.now)) }
+    ensures after { out.new ≡ written out.old 0 (text_of (given n triples.now counts.now)) }
     ensures value { result ≡ written_to out.old 0 (text_of (given n triples.now counts.now)) }
 {
     let to = put(out, 0, b"(set-logic QF_IDL)\n");

@@ -13,7 +13,7 @@ pub const LONGEST_TEXT: usize = 31 + 25 * EVENTS + 15 * CLAUSES + 28 * ALTERNATI
 const TOO_LONG: u8 = 21;
 
 // What writing gives: the length of the text, or the refusal's number.
-#[derive(Drop)]
+#[derive(Clone, Copy)]
 pub enum Written {
     Text(usize),
     Refused(u8),

@@ -20,7 +20,7 @@ pub use standing::chosen_of;
 use standing::{facts_of, first_dead};
 
 // Whether there is a standing after one that is closed, and its picks.
-#[derive(Drop)]
+#[derive(Clone, Copy)]
 pub struct Advanced {
     pub on: bool,
     pub picks: [u8; 32],
@@ -28,7 +28,7 @@ pub struct Advanced {
 }
 
 // A place of the search: the standing to come to next, the visits made, and the rows so far.
-#[derive(Drop)]
+#[derive(Clone, Copy)]
 pub struct Place {
     pub picks: [u8; 32],
     pub k: usize,
@@ -37,7 +37,7 @@ pub struct Place {
 }
 
 // How a step ends: the search goes on, a plan is found, all is closed, or the allowance is spent.
-#[derive(Drop)]
+#[derive(Clone, Copy)]
 pub enum Turn {
     On,
     Plan,
@@ -45,7 +45,7 @@ pub enum Turn {
     Stop,
 }
 
-#[derive(Drop)]
+#[derive(Clone, Copy)]
 pub struct Went {
     pub turn: Turn,
     pub place: Place,

@@ -20,7 +20,7 @@ use leading::{BLANK, first_from};
 use problem::{EVENTS, ROW};
 
 // A row and how many numbers it has; or one more than was looked for, and no row.
-#[derive(Drop)]
+#[derive(Clone, Copy)]
 struct Found {
     size: usize,
     row: [u8; ROW],

@@ -35,14 +35,14 @@ const NOT_FINITE: u32 = 0x7f80_0000;
 const CAP: u32 = 0x80_0000;
 
 // The two ends of a slider's travel, in either order.
-#[derive(Drop)]
+#[derive(Clone, Copy)]
 pub struct Travel {
     pub low: f32,
     pub high: f32,
 }
 
 // The kinds of slider, each with its calibration numbers.
-#[derive(Drop)]
+#[derive(Clone, Copy)]
 pub enum Kind {
     Span(Travel),
     Rate { work: f32 },
@@ -50,21 +50,21 @@ pub enum Kind {
 }
 
 // What the bound is used for.
-#[derive(Drop)]
+#[derive(Clone, Copy)]
 pub enum Use {
     AtMost,
     AtLeast,
 }
 
 // The bound as its use takes it, or the refusal number.
-#[derive(Drop)]
+#[derive(Clone, Copy)]
 pub enum SliderAnswer {
     Bound(i32),
     Refused(u8),
 }
 
 // A number's size in parts of 1 / 2 ^ j, cut to a whole number that stops at CAP, and whether something was cut off.
-#[derive(Drop)]
+#[derive(Clone, Copy)]
 struct Split {
     finite: bool,
     neg: bool,

@@ -16,7 +16,7 @@ use script::BYTES;
 const ALLOWANCE: u32 = 1000000;
 
 // What is said of a script.
-#[derive(Drop)]
+#[derive(Clone, Copy)]
 pub enum Saying {
     Sat,
     Unsat,
@@ -86,7 +86,7 @@ fn solution(text: &[u8]) -> Saying
 
 // Writes what is said into the line, and answers the place after it.
 fn put_saying(line: &mut [u8], saying: Saying) -> usize
-    ensures line_after { line.new ≡ written line.old 0 (said saying) }
+    ensures after { line.new ≡ written line.old 0 (said saying) }
     ensures value { result ≡ written_to line.old 0 (said saying) }
 {
     match saying {

@@ -25,7 +25,7 @@ const NO_TIMETABLE: u8 = 13;
 const OUT_OF_RANGE: u8 = 16;
 
 // The refusal's number, or 0 with the numbers of the day with one fact more.
-#[derive(Drop)]
+#[derive(Clone, Copy)]
 struct Trial {
     number: u8,
     numbers: [u32; ENTRIES],

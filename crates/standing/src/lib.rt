@@ -16,14 +16,14 @@ pub const ENTRIES: usize = EVENTS * EVENTS;
 
 // A standing day of n events: the shortest distance between every pair of them under the facts so far. Row = from, column = to;
 // 2,147,483,647 stands for none, and in every entry for an event past the last.
-#[derive(Drop)]
+#[derive(Clone, Copy)]
 pub struct Day {
     pub n: u32,
     pub entries: [i32; ENTRIES],
 }
 
 // The refusal's number, or 0, and the day.
-#[derive(Drop)]
+#[derive(Clone, Copy)]
 pub struct Answered {
     pub number: u8,
     pub day: Day,

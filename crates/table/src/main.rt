@@ -15,7 +15,7 @@ const SPACE: u8 = 32;
 
 // What is kept of a line that has not ended: its bytes at the front of the text, or none of them where it is too long; and whether
 // the input has ended.
-#[derive(Drop)]
+#[derive(Clone, Copy)]
 struct Kept {
     bytes: usize,
     too_long: bool,
@@ -23,14 +23,14 @@ struct Kept {
 }
 
 // How many bytes came, and whether the input has ended.
-#[derive(Drop)]
+#[derive(Clone, Copy)]
 struct Input {
     bytes: usize,
     ended: bool,
 }
 
 // What remains of a text whose lines have been answered: from which place on, and whether that line is too long.
-#[derive(Drop)]
+#[derive(Clone, Copy)]
 struct Rest {
     start: usize,
     too_long: bool,

@@ -18,7 +18,7 @@ use problem::{ALTERNATIVES, ARCS};
 const OPPOSITE_FROM: usize = ALTERNATIVES;
 
 // Whether the opposites so far are sound, and where the table lies that has them.
-#[derive(Drop)]
+#[derive(Clone, Copy)]
 struct Passed {
     ok: bool,
     base: usize,

@@ -22,7 +22,7 @@ returns-in-Malformed c =
     let e = next-none (after_word a l.to) (unsigned_of 0xffffffff (word_at a l.to)) c.number_at.result c.in-Malformed.is c.number_at.ensures in
     record {
       value = sym (ap as_listed (l.invariant.1.1.0 ∙ after_none (unsigned_of 0xffffffff) a l.to l.out l.i 0 (omega arith) e));
-      out_after = sym (l.invariant.1.1.1 ∙ list-none (unsigned_of 0xffffffff) a l.to l.out l.i 0 (omega arith) e);
+      after = sym (l.invariant.1.1.1 ∙ list-none (unsigned_of 0xffffffff) a l.to l.out l.i 0 (omega arith) e);
     }
 
 pub loop-i-preserved : goal.loop-i-preserved
@@ -46,5 +46,5 @@ returns c =
     let a = c.args.line.now in
     record {
       value = sym (ap as_listed (l.invariant.1.1.0 ∙ after-end (unsigned_of 0xffffffff) a l.to l.out l.i (omega arith)));
-      out_after = sym (l.invariant.1.1.1 ∙ list-end (unsigned_of 0xffffffff) a l.to l.out l.i (omega arith));
+      after = sym (l.invariant.1.1.1 ∙ list-end (unsigned_of 0xffffffff) a l.to l.out l.i (omega arith));
     }

@@ -26,7 +26,7 @@ returns-in-Malformed c =
     let e = next-signed-none (after_word a l.to) (signed_of (word_at a l.to)) c.signed_at.result c.in-Malformed.is c.signed_at.ensures in
     record {
       value = sym (ap as_listed (l.invariant.1.1.0 ∙ after_none signed_of a l.to l.out l.i (pos 0) (omega arith) e));
-      out_after = sym (l.invariant.1.1.1 ∙ list-none signed_of a l.to l.out l.i (pos 0) (omega arith) e);
+      after = sym (l.invariant.1.1.1 ∙ list-none signed_of a l.to l.out l.i (pos 0) (omega arith) e);
     }
 
 pub loop-i-preserved : goal.loop-i-preserved
@@ -52,5 +52,5 @@ returns c =
     let a = c.args.line.now in
     record {
       value = sym (ap as_listed (l.invariant.1.1.0 ∙ after-end signed_of a l.to l.out l.i (omega arith)));
-      out_after = sym (l.invariant.1.1.1 ∙ list-end signed_of a l.to l.out l.i (omega arith));
+      after = sym (l.invariant.1.1.1 ∙ list-end signed_of a l.to l.out l.i (omega arith));
     }

@@ -16,7 +16,7 @@ returns-then-out-to c =
     let l = c.loop-i in
     let t = drop l.i c.args.text.now in
     record {
-      out_after = sym (l.invariant.1.1.0 ∙ written-full l.out l.to t c.if-out-to.true);
+      after = sym (l.invariant.1.1.0 ∙ written-full l.out l.to t c.if-out-to.true);
       value = sym (l.invariant.1.1.1 ∙ to-full l.out l.to t c.if-out-to.true);
     }
 
@@ -31,6 +31,6 @@ returns c =
     let l = c.loop-i in
     let t = c.args.text.now in
     record {
-      out_after = sym (l.invariant.1.1.0 ∙ written-off l.out l.to t l.i c.loop-i-test.false);
+      after = sym (l.invariant.1.1.0 ∙ written-off l.out l.to t l.i c.loop-i-test.false);
       value = sym (l.invariant.1.1.1 ∙ to-off l.out l.to t l.i c.loop-i-test.false);
     }

@@ -15,7 +15,7 @@ pub returns-then-z-lt0 : goal.returns-then-z-lt0
 returns-then-z-lt0 c =
     let a = c.args in
     let q = c.put_number in
-    let w : c.put-to.new.out ≡ written a.out.now a.at (45 ∷ []) = c.put-to.ensures.out_after in
+    let w : c.put-to.new.out ≡ written a.out.now a.at (45 ∷ []) = c.put-to.ensures.after in
     let m : c.put-to.result ≡ written_to a.out.now a.at (45 ∷ []) = c.put-to.ensures.value in
     let e : lt_z a.z (pos 0) ≡ true = rw (to_z-of_z c.ranges.z) at c.if-z-lt0.true in
     let n : c.size-n.result ≡ nat_abs a.z = rw (to_z-of_z c.ranges.z) at c.size-n.ensures in

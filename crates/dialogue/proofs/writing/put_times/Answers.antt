@@ -22,13 +22,13 @@ loop-i-preserved c =
     let s = c.args.list.now in
     let f : SFits w32 (get_or s l.i (pos 0)) = search rules in
     let e = rw (to_z-of_z f) at c.put_signed-to.ensures in
-    (omega arith, (search rules, (l.invariant.1.1.0 ∙ led-written signed_decimal s l.i (pos 0) (omega arith) l.out c.put-to.new.out c.put_signed-to.new.out l.to c.put-to.result c.put_signed-to.result c.put-to.ensures.out_after c.put-to.ensures.value e.out_after e.value, l.invariant.1.1.1 ∙ led-to signed_decimal s l.i (pos 0) (omega arith) l.out c.put-to.new.out c.put_signed-to.new.out l.to c.put-to.result c.put_signed-to.result c.put-to.ensures.out_after c.put-to.ensures.value e.out_after e.value)))
+    (omega arith, (search rules, (l.invariant.1.1.0 ∙ led-written signed_decimal s l.i (pos 0) (omega arith) l.out c.put-to.new.out c.put_signed-to.new.out l.to c.put-to.result c.put_signed-to.result c.put-to.ensures.after c.put-to.ensures.value e.after e.value, l.invariant.1.1.1 ∙ led-to signed_decimal s l.i (pos 0) (omega arith) l.out c.put-to.new.out c.put_signed-to.new.out l.to c.put-to.result c.put_signed-to.result c.put-to.ensures.after c.put-to.ensures.value e.after e.value)))
 
 pub returns : goal.returns
 returns c =
     let l = c.loop-i in
     let s = c.args.list.now in
     record {
-      out_after = sym (l.invariant.1.1.0 ∙ led-end signed_decimal s l.i (omega arith) l.out l.to);
+      after = sym (l.invariant.1.1.0 ∙ led-end signed_decimal s l.i (omega arith) l.out l.to);
       value = sym (l.invariant.1.1.1 ∙ led-end-to signed_decimal s l.i (omega arith) l.out l.to);
     }

@@ -1,0 +1,114 @@
+-- `extend` meets its contract. Assumes nothing.
+use mathlib.Core.Path.{◌≡◌, sym, ap, ◌∙◌}
+use Prim.Native.Nat.{ℕ, ◌+◌, ◌*◌, ◌-◌, ◌<◌, ◌≤◌}
+use native.Mathlib.Nat.{zero-mul}
+use native.Mathlib.Omega.{arith}
+use borrow.Author.Rules.{rules}
+use Rattle.problem.specs.Arcs.{at}
+use Rattle.distances.specs.Numbers.{shift}
+use Rattle.distances.proofs.Numbers.{place}
+use Rattle.distances.proofs.Tables.{Extending, extending-none, extending-all, extending-more, clear-own, clear-through, row-past, row_next}
+use Rattle.distances.proofs.Meaning.{extended-holds}
+use Rattle.distances.proofs.extend.Goals as goal
+
+-- src/lib.rt:76:23
+pub overflow_mul-past : goal.overflow_mul-past
+overflow_mul-past c = omega (arith, place c.args.n c.args.w c.args.x c.args.y (omega arith) (omega arith))
+
+-- src/lib.rt:76:16
+pub overflow_add-past : goal.overflow_add-past
+overflow_add-past c = omega (arith, place c.args.n c.args.w c.args.x c.args.y (omega arith) (omega arith))
+
+-- src/lib.rt:79:5
+pub loop-u-init : goal.loop-u-init
+loop-u-init c = (omega arith, (sym (zero-mul c.args.w), extending-none _ _ _ _ _ _ _ _))
+
+-- src/lib.rt:80:36
+pub overflow_add-row : goal.overflow_add-row
+overflow_add-row c =
+    let row_in : c.loop-u.row + c.args.w ≤ c.args.n * c.args.w = (omega (arith, row-past c.args.w c.loop-u.u c.args.n (omega arith), c.loop-u.invariant.1.0)) in
+    let inside : c.loop-u.row + c.args.y < c.args.n * c.args.w = (omega (arith, row_in)) in
+    omega (arith, inside)
+
+-- src/lib.rt:80:28
+pub overflow_add-from : goal.overflow_add-from
+overflow_add-from c =
+    let row_in : c.loop-u.row + c.args.w ≤ c.args.n * c.args.w = (omega (arith, row-past c.args.w c.loop-u.u c.args.n (omega arith), c.loop-u.invariant.1.0)) in
+    let inside : c.loop-u.row + c.args.y < c.args.n * c.args.w = (omega (arith, row_in)) in
+    omega (arith, inside)
+
+-- src/lib.rt:80:26
+pub offset_bounds-s-from : goal.offset_bounds-s-from
+offset_bounds-s-from c =
+    let row_in : c.loop-u.row + c.args.w ≤ c.args.n * c.args.w = (omega (arith, row-past c.args.w c.loop-u.u c.args.n (omega arith), c.loop-u.invariant.1.0)) in
+    let inside : c.loop-u.row + c.args.y < c.args.n * c.args.w = (omega (arith, row_in)) in
+    omega (arith, inside)
+
+-- src/lib.rt:80:26
+pub bounds-s-from : goal.bounds-s-from
+bounds-s-from c =
+    let row_in : c.loop-u.row + c.args.w ≤ c.args.n * c.args.w = (omega (arith, row-past c.args.w c.loop-u.u c.args.n (omega arith), c.loop-u.invariant.1.0)) in
+    let inside : c.loop-u.row + c.args.y < c.args.n * c.args.w = (omega (arith, row_in)) in
+    omega (arith, inside)
+
+-- src/lib.rt:80:13
+pub shift_of-t-requires : goal.shift_of-t-requires
+shift_of-t-requires c = c.requires.6
+
+-- src/lib.rt:81:22
+pub overflow_add-from-in-loop-u : goal.overflow_add-from-in-loop-u
+overflow_add-from-in-loop-u c =
+    let row_in : c.loop-u.row + c.args.w ≤ c.args.n * c.args.w = (omega (arith, row-past c.args.w c.loop-u.u c.args.n (omega arith), c.loop-u.invariant.1.0)) in
+    let inside : c.loop-u.row + c.args.y < c.args.n * c.args.w = (omega (arith, row_in)) in
+    omega (arith, inside)
+
+-- src/lib.rt:81:34
+pub overflow_add-to : goal.overflow_add-to
+overflow_add-to c =
+    let row_in : c.loop-u.row + c.args.w ≤ c.args.n * c.args.w = (omega (arith, row-past c.args.w c.loop-u.u c.args.n (omega arith), c.loop-u.invariant.1.0)) in
+    let inside : c.loop-u.row + c.args.y < c.args.n * c.args.w = (omega (arith, row_in)) in
+    omega (arith, inside)
+
+-- src/lib.rt:81:9
+pub lower_row-requires : goal.lower_row-requires
+lower_row-requires c =
+    let row_in : c.loop-u.row + c.args.w ≤ c.args.n * c.args.w = (omega (arith, row-past c.args.w c.loop-u.u c.args.n (omega arith), c.loop-u.invariant.1.0)) in
+    let end-in : c.args.x * c.args.w + c.args.w ≤ c.args.n * c.args.w = (row-past c.args.w c.args.x c.args.n (omega arith)) in
+        let own = clear-own _ _ _ _ _ _ _ _ c.requires.2 c.requires.3 c.requires.4 c.requires.7 c.loop-u.u (omega arith) in
+    let through = clear-through _ _ _ _ _ _ _ _ c.requires.2 c.requires.3 c.requires.4 c.requires.7 c.loop-u.u (omega arith) in (
+      omega (arith, row_in),
+      omega (arith, row_in),
+      omega (arith, end-in),
+      c.shift_of-t.ensures.1,
+      rw (← c.loop-u.invariant.1.0) at own,
+      rw (← c.loop-u.invariant.1.0) at through,
+    )
+
+-- src/lib.rt:82:9
+pub overflow_add-row-in-loop-u : goal.overflow_add-row-in-loop-u
+overflow_add-row-in-loop-u c =
+    let row_in : c.loop-u.row + c.args.w ≤ c.args.n * c.args.w = (omega (arith, row-past c.args.w c.loop-u.u c.args.n (omega arith), c.loop-u.invariant.1.0)) in
+    omega (arith, row_in)
+
+-- src/lib.rt:79:5
+pub loop-u-preserved : goal.loop-u-preserved
+loop-u-preserved c =
+    let q : c.loop-u.row ≡ c.loop-u.u * c.args.w = c.loop-u.invariant.1.0 in (
+      omega arith,
+      (
+        row_next c.loop-u.row c.loop-u.u c.args.w q,
+        extending-more _ _ _ _ _ _ _ _ c.requires.2 c.requires.3 c.requires.4 c.requires.7 c.loop-u.s _ c.loop-u.u _ (omega arith) c.loop-u.invariant.1.1
+            (c.shift_of-t.ensures.0 ∙ ap (λ (p : ℕ). shift p c.args.b) (ap (λ (k : ℕ). at c.loop-u.s (c.args.from + (k + c.args.y))) q ∙ c.loop-u.invariant.1.1.ahead c.loop-u.u c.args.y (omega arith) (omega arith) c.requires.4))
+            (rw q at c.lower_row.ensures),
+      ),
+    )
+
+-- src/lib.rt:72:1
+pub returns : goal.returns
+returns c =
+    let e : c.loop-u.u ≡ c.args.n = omega arith in
+    let done = extending-all _ _ _ _ _ _ _ _ _ (rw e at c.loop-u.invariant.1.1) in
+    record {
+      numbers = done;
+      day = λ fs a h k ok. extended-holds c.args.s.now c.args.from c.args.w c.args.n c.args.x c.args.y c.args.b a h c.requires.3 c.requires.4 c.requires.6 _ c.args.to done fs k ok c.requires.5;
+    }

@@ -1,0 +1,20 @@
+-- `latest` meets its contract. Assumes nothing.
+use mathlib.Core.Path.{◌≡◌, refl}
+use Prim.Native.Nat.{ℕ, ◌-◌, ◌<◌, ◌≤◌}
+use native.Mathlib.Omega.{arith}
+use borrow.Author.Rules.{rules}
+use lib.ListN.{length, length-set}
+use Rattle.problem.specs.Arcs.{at}
+use Rattle.meaning.proofs.Settling.{zero-at}
+use Rattle.distances.specs.Numbers.{minutes_of, middle}
+use Rattle.meaning.specs.Limits.{most_events}
+use Rattle.laws.proofs.Lists.{front-more}
+use Rattle.distances.proofs.Rows.{small-more}
+use Rattle.distances.proofs.Minutes.{minutes-least, minutes-small}
+use Rattle.distances.proofs.latest.Given as goal
+
+abbrev pub invariant-loop-v : goal.invariant-loop-v
+invariant-loop-v l = (l.v ≤ l.n) × (length l.t ≡ most_events) × ((k : ℕ) → k < l.v → at l.t k ≡ minutes_of l.s l.base l.w k l.n) × ((k : ℕ) → at l.t k ≤ middle)
+
+abbrev pub decreases-loop-v : goal.decreases-loop-v
+decreases-loop-v l = l.n - l.v

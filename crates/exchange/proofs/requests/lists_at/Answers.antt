@@ -1,0 +1,33 @@
+-- `lists_at` meets its contract. Assumes nothing.
+use borrow.Author.Rules.{rules}
+use Rattle.exchange.proofs.Asking.{lists-none, lists_of, lists-off, counts-filled}
+use Rattle.exchange.proofs.requests.lists_at.Goals as goal
+
+pub returns-in_default : goal.returns-in_default
+returns-in_default c =
+    let a = c.args in
+    let t = c.signed_list.ensures in
+    let n = lists-none a.line.now a.at a.triples.now a.counts.now _ t.0 c.in_default.is in
+    record {
+      value = n.0;
+      triples_after = t.1;
+      counts_after = n.1;
+    }
+
+pub returns-in-Of-number_list : goal.returns-in-Of-number_list
+returns-in-Of-number_list c =
+    let a = c.args in
+    let t = c.signed_list.ensures in
+    let n = c.number_list.ensures in (
+      lists_of a.line.now a.at a.triples.now a.counts.now _ t.0 _ _ c.in-Of.is _ n.0 _ _ c.in-Of-number_list.is,
+      (t.1, counts-filled a.line.now a.at a.triples.now a.counts.now _ t.0 _ _ c.in-Of.is _ n.0 _ n.1),
+    )
+
+pub returns-in-Malformed : goal.returns-in-Malformed
+returns-in-Malformed c =
+    let a = c.args in
+    let t = c.signed_list.ensures in
+    let n = c.number_list.ensures in (
+      lists-off a.line.now a.at a.triples.now a.counts.now _ t.0 _ _ c.in-Of.is _ n.0 c.in-Malformed.is,
+      (t.1, counts-filled a.line.now a.at a.triples.now a.counts.now _ t.0 _ _ c.in-Of.is _ n.0 _ n.1),
+    )

@@ -1,0 +1,72 @@
+-- `readers::dead` meets its contract: what remains of the dead clause from row r on gives the same. Assumes nothing.
+use mathlib.Core.Path.{◌≡◌, sym}
+use Prim.Native.Nat.{◌-◌}
+use native.Mathlib.Omega.{arith}
+use borrow.Author.Rules.{rules}
+use borrow.Author.Tests.{not-true, not-false}
+use lib.ListN.{length, drop}
+use Rattle.meaning.specs.Limits.{row_bytes}
+use Rattle.meaning.specs.Reasons.{rows_of}
+use Rattle.problem.specs.Laid.{clauses_from}
+use Rattle.readers.specs.Standing.{facts_from}
+use Rattle.readers.specs.Leaves.{dead_rows}
+use Rattle.readers.proofs.Rows.{rows-count}
+use Rattle.readers.proofs.Readings.{dead-chosen, dead-past}
+use Rattle.readers.proofs.Turns.{Testing, test-start, test-end, test-number, test-decided, test-no, test-there, test-row}
+use Rattle.readers.proofs.dead.Goals as goal
+
+pub returns-then-d-k : goal.returns-then-d-k
+returns-then-d-k c = record { is = sym (dead-chosen c.args.t1 _ _ _ c.requires.1.all _ _ c.if-d-k.true); reached = tt }
+
+pub returns-then-p-d : goal.returns-then-p-d
+returns-then-p-d c =
+    record { is = sym (dead-past c.args.t1 _ _ _ c.requires.1.all _ _ c.if-d-k.false c.if-p-d.true); reached = tt }
+
+pub overflow_add-d : goal.overflow_add-d
+overflow_add-d c = omega (arith, c.requires.0.few)
+
+pub bounds-p-d : goal.bounds-p-d
+bounds-p-d c = omega (arith, c.requires.0.few)
+
+pub wide-end-requires : goal.wide-end-requires
+wide-end-requires c = tt
+
+pub bounds-p-d-2 : goal.bounds-p-d-2
+bounds-p-d-2 c = omega (arith, c.requires.0.few)
+
+pub wide-j-requires : goal.wide-j-requires
+wide-j-requires c = tt
+
+pub overflow_sub-first : goal.overflow_sub-first
+overflow_sub-first c = omega (arith, c.requires.0.ends c.args.k (omega arith), c.requires.0.last, c.requires.1.decided.few)
+
+pub loop-j-init : goal.loop-j-init
+loop-j-init c =
+    let h : length c.args.facts ≡ 65 = search rules in
+    test-start c.args.t1 c.requires.0 (rows_of row_bytes c.args.list.now) c.args.d c.args.k c.args.left _ _ c.args.facts c.args.from c.args.row h c.requires.1 c.if-d-k.false c.if-p-d.false c.wide-end.ensures c.wide-j.ensures (omega (arith, c.requires.2, rows-count row_bytes c.args.list.now))
+
+pub overflow_cast-known : goal.overflow_cast-known
+overflow_cast-known c =
+    omega (arith, test-number _ c.requires.0 _ _ _ _ _ _ _ _ c.loop-j.invariant c.loop-j-test.true, c.requires.0.last)
+
+pub bounds-known-first : goal.bounds-known-first
+bounds-known-first c = omega (arith, c.loop-j.invariant.decided.within)
+
+pub cycle_at-requires : goal.cycle_at-requires
+cycle_at-requires c =
+    let t = test-decided _ c.requires.0 _ _ _ _ _ _ _ _ c.loop-j.invariant c.loop-j-test.true in (t.known, t.within)
+
+pub returns-then-not-cycle_at : goal.returns-then-not-cycle_at
+returns-then-not-cycle_at c =
+    test-no _ c.requires.0 _ _ _ _ _ _ _ _ c.loop-j.invariant c.loop-j-test.true _ c.cycle_at.ensures c.if-not-cycle_at.true
+
+pub overflow_add-r : goal.overflow_add-r
+overflow_add-r c =
+    omega (arith, rows-count row_bytes c.args.list.now, test-there _ c.requires.0 _ _ _ _ _ _ _ _ c.loop-j.invariant c.loop-j-test.true _ c.cycle_at.ensures c.if-not-cycle_at.false)
+
+pub loop-j-preserved : goal.loop-j-preserved
+loop-j-preserved c =
+    test-row _ c.requires.0 _ _ _ _ _ _ _ _ c.loop-j.invariant c.loop-j-test.true _ c.cycle_at.ensures c.if-not-cycle_at.false
+
+pub returns : goal.returns
+returns c = test-end _ c.requires.0 _ _ _ _ _ _ _ _ c.loop-j.invariant c.loop-j-test.false

@@ -1,0 +1,52 @@
+-- `readers::is_some_satisfied` meets its contract: the alternatives from j on have a satisfied one where the clause has. Assumes nothing.
+use mathlib.Core.Path.{◌≡◌, refl, sym, ◌∙◌}
+use Prim.Native.Nat.{suc, ◌+◌, ◌-◌, ◌≤◌}
+use native.Mathlib.Omega.{arith}
+use borrow.Author.Rules.{rules}
+use Rattle.meaning.specs.Plain.{times_of}
+use Rattle.meaning.specs.Verdicts.{some}
+use Rattle.problem.specs.Arcs.{at, arcs_from}
+use Rattle.problem.specs.Laid.{arcs, clause_of}
+use Rattle.readers.proofs.Clauses.{numbers}
+use Rattle.readers.proofs.Keeping.{some-here, some-later, some-none}
+use Rattle.readers.proofs.is_some_satisfied.Goals as goal
+
+pub overflow_add-k : goal.overflow_add-k
+overflow_add-k c = omega (arith, c.requires.0.few)
+
+pub bounds-p-k : goal.bounds-p-k
+bounds-p-k c = omega (arith, c.requires.0.few)
+
+pub wide-end-requires : goal.wide-end-requires
+wide-end-requires c = tt
+
+pub bounds-p-k-2 : goal.bounds-p-k-2
+bounds-p-k-2 c = omega (arith, c.requires.0.few)
+
+pub wide-j-requires : goal.wide-j-requires
+wide-j-requires c = tt
+
+pub loop-j-init : goal.loop-j-init
+loop-j-init c =
+    let b = numbers c.args.t1 c.requires.0 c.args.k c.requires.2 in
+    let z : suc c.args.k ≡ c.args.k + 1 = omega arith in
+    let x = c.wide-end.ensures in
+    let y = c.wide-j.ensures in
+    (omega (arith, b.rise), omega (arith, b.within), rw (x, y, z) refl)
+
+pub is_satisfied-requires : goal.is_satisfied-requires
+is_satisfied-requires c = (c.requires.0.alternative c.loop-j.j (omega (arith, c.loop-j.invariant.1)), c.requires.1)
+
+pub returns-then-is_satisfied : goal.returns-then-is_satisfied
+returns-then-is_satisfied c =
+    sym (c.loop-j.invariant.2 ∙ some-here _ _ _ _ c.loop-j-test.true (sym c.is_satisfied.ensures ∙ c.if-is_satisfied.true))
+
+pub overflow_add-j : goal.overflow_add-j
+overflow_add-j c = omega (arith, c.requires.0.last)
+
+pub loop-j-preserved : goal.loop-j-preserved
+loop-j-preserved c =
+    (omega arith, c.loop-j.invariant.1, c.loop-j.invariant.2 ∙ some-later _ _ _ _ c.loop-j-test.true (sym c.is_satisfied.ensures ∙ c.if-is_satisfied.false))
+
+pub returns : goal.returns
+returns c = sym (c.loop-j.invariant.2 ∙ some-none _ _ _ _ c.loop-j-test.false)

@@ -9,7 +9,8 @@ use Rattle.exchange.proofs.requests.signed_list.Goals as goal
 pub returns-in_default : goal.returns-in_default
 returns-in_default c =
     let a = c.args in
-    list-none signed_of a.line.now a.at a.out.now _ c.count_at.ensures c.in_default.is
+    let e = list-none signed_of a.line.now a.at a.out.now _ c.count_at.ensures c.in_default.is in
+    record { value = e.0; after = e.1 }
 
 pub slice_bounds-list_signed-end : goal.slice_bounds-list_signed-end
 slice_bounds-list_signed-end c =
@@ -17,7 +18,7 @@ slice_bounds-list_signed-end c =
     list-in signed_of a.line.now a.at a.out.now _ c.count_at.ensures _ _ c.in-Of.is
 
 pub slice_bounds-list_signed-end-2 : goal.slice_bounds-list_signed-end-2
-slice_bounds-list_signed-end-2 c = simp length-take (omega (arith, slice_bounds-list_signed-end c))
+slice_bounds-list_signed-end-2 c = simp length-take (omega (arith, list-in signed_of c.args.line.now c.args.at c.args.out.now _ c.count_at.ensures _ _ c.in-Of.is))
 
 pub returns-in-Up : goal.returns-in-Up
 returns-in-Up c =

@@ -1,0 +1,39 @@
+-- `reason` is the row of the shortest reason: after t turns it has the best row of the events below t. Assumes nothing.
+use Prim.Native.Nat.{◌+◌, ◌-◌, ◌≤◌}
+use mathlib.Core.Path.{◌≡◌}
+use mathlib.Core.Logic.{⊎_elim}
+use native.Mathlib.Omega.{arith}
+use borrow.Author.Rules.{rules}
+use lib.ListN.{length}
+use Rattle.meaning.specs.Limits.{most_events}
+use Rattle.problem.specs.Arcs.{net}
+use Rattle.facts.proofs.Deciding.{within_more}
+use Rattle.shortest.specs.Best.{Best}
+use Rattle.shortest.proofs.Choosing.{best-start, best-new, best-old}
+use Rattle.shortest.proofs.Naming.{best-names}
+use Rattle.shortest.proofs.reason.Goals as goal
+
+pub loop-t-init : goal.loop-t-init
+loop-t-init c = (best-start _ _ _ _, search rules, omega arith)
+
+pub look-new-requires : goal.look-new-requires
+look-new-requires c =
+    (within_more _ c.args.facts.now c.args.n most_events c.requires.2 c.requires.0, c.requires.1, omega arith, omega (arith, c.smaller-most.ensures.1), search rules)
+
+pub loop-t-preserved : goal.loop-t-preserved
+loop-t-preserved c =
+    let l = c.loop-t in
+    let q = c.look-new.ensures in
+    let says = c.goes_before.ensures in (
+      ⊎_elim (λ w. rw w.1 (best-new _ _ c.args.n l.t c.smaller-most.result l.best.size _ l.best.row _ c.requires.2 c.smaller-most.ensures.2 l.invariant.0 q (says.yes w.0.taken)))
+          (λ w. rw w.1 (best-old _ _ c.args.n l.t c.smaller-most.result l.best.size _ l.best.row _ c.requires.2 c.smaller-most.ensures.2 l.invariant.0 q (says.no w.0.left)))
+          c.if-goes_before.branch,
+      search rules,
+      omega arith,
+    )
+
+pub returns : goal.returns
+returns c =
+    let l = c.loop-t in
+    let e : l.t ≡ c.args.n = omega arith in
+    best-names _ _ c.args.n c.requires.0 l.best.size l.best.row (rw e at l.invariant.0) c.requires.3

@@ -1,0 +1,20 @@
+-- `no_facts` meets its contract. Assumes nothing.
+use mathlib.Core.Path.{ap, ◌∙◌}
+use Prim.Native.Nat.{ℕ, ◌*◌, ◌<◌}
+use borrow.Author.Rules.{rules}
+use lib.IntN.{ℤ}
+use lib.ListN.{get_or-replicate}
+use mathlib.Core.List.{List}
+use Rattle.meaning.specs.Limits.{most_events}
+use Rattle.distances.specs.Numbers.{no_way}
+use Rattle.standing.specs.Entries.{entry_of, day_with}
+use Rattle.standing.proofs.Listed.{list_same}
+use Rattle.standing.proofs.Making.{fresh-place}
+use Rattle.standing.proofs.adding.no_facts.Goals as goal
+
+pub returns : goal.returns
+unfolding day_with
+returns c =
+    ap (λ (l : List ℤ). record { n = c.args.n; entries = l })
+    (c.entries_of.ensures
+    ∙ list_same (most_events * most_events) _ _ (λ k l. ap entry_of (fresh-place _ _ c.args.n c.requires (λ (k : ℕ) (l : k < most_events * most_events). get_or-replicate (most_events * most_events) k no_way 0 l) c.begin.ensures k l)))

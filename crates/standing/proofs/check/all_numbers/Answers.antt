@@ -1,0 +1,31 @@
+-- `all_numbers` meets its contract. Assumes nothing.
+use mathlib.Core.Path.{◌≡◌, sym, subst}
+use mathlib.Core.Bool.{Bool, true}
+use mathlib.Core.List.{List}
+use Prim.Native.Nat.{ℕ, ◌*◌, ◌-◌, ◌≤◌}
+use native.Mathlib.Omega.{arith}
+use borrow.Author.Rules.{rules}
+use borrow.Author.Tests.{not-true, not-false}
+use Rattle.meaning.specs.Limits.{most_events}
+use Rattle.problem.specs.Arcs.{at}
+use Rattle.distances.specs.Numbers.{distance}
+use Rattle.standing.specs.Standing.{every, in_range}
+use Rattle.standing.proofs.Every.{every-none, every_more, every-fails}
+use Rattle.standing.proofs.check.all_numbers.Invariants.{each}
+use Rattle.standing.proofs.check.all_numbers.Goals as goal
+
+pub loop-k-init : goal.loop-k-init
+loop-k-init c = (omega arith, every-none (each c.args.s.now))
+
+pub returns-then-not-is_number : goal.returns-then-not-is_number
+returns-then-not-is_number c =
+    sym (every-fails (most_events * most_events) (each c.args.s.now) c.loop-k.k (omega arith) c.is_number.ensures c.if-not-is_number.true)
+
+pub loop-k-preserved : goal.loop-k-preserved
+loop-k-preserved c =
+    (omega arith, every_more (each c.args.s.now) c.loop-k.k c.loop-k.invariant.1 c.is_number.ensures c.if-not-is_number.false)
+
+pub returns : goal.returns
+returns c =
+    let q : c.loop-k.k ≡ most_events * most_events = omega arith in
+    sym (subst (λ (k : ℕ). every k (each c.args.s.now) ≡ true) q c.loop-k.invariant.1)

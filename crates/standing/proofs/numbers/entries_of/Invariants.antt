@@ -1,0 +1,26 @@
+-- `entries_of` meets its contract. Assumes nothing.
+use mathlib.Core.Path.{◌≡◌, refl, ◌∙◌}
+use mathlib.Core.List.{List}
+use Prim.Native.Nat.{ℕ, ◌*◌, ◌-◌, ◌<◌, ◌≤◌}
+use native.Mathlib.Omega.{arith}
+use borrow.Author.Rules.{rules}
+use mir.Syntax.{w32}
+use mir.Facts.{to_z-of_z}
+use lib.IntN.{ℤ, pos}
+use lib.ListN.{length, get_or, length-set}
+use Rattle.laws.proofs.Lists.{front-more}
+use Rattle.meaning.specs.Limits.{most_events}
+use Rattle.problem.specs.Arcs.{at}
+use Rattle.distances.specs.Numbers.{distance}
+use Rattle.standing.specs.Entries.{entry_of}
+use Rattle.standing.proofs.Listed.{list-is}
+use Rattle.standing.proofs.numbers.entries_of.Given as goal
+
+abbrev pub entry : List ℕ → ℕ → ℤ
+entry numbers k = entry_of (distance (at numbers k))
+
+abbrev pub invariant-loop-k : goal.invariant-loop-k
+invariant-loop-k l = (l.k ≤ most_events * most_events) × (length l.entries ≡ most_events * most_events) × ((i : ℕ) → i < l.k → get_or l.entries i (pos 0) ≡ entry l.numbers i)
+
+abbrev pub decreases-loop-k : goal.decreases-loop-k
+decreases-loop-k l = most_events * most_events - l.k

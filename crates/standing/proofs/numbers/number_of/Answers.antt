@@ -1,0 +1,35 @@
+-- `number_of` meets its contract. Assumes nothing.
+use mathlib.Core.Path.{◌∙◌}
+use Prim.Native.Nat.{◌≤◌}
+use native.Mathlib.Omega.{arith}
+use mir.Facts.{to_z-of_z}
+use borrow.Author.Rules.{rules}
+use lib.IntN.{nat_abs}
+use Rattle.laws.proofs.Integers.{lifts-by}
+use Rattle.problem.specs.Arcs.{farthest}
+use Rattle.distances.specs.Numbers.{middle}
+use Rattle.standing.proofs.Singles.{number-none, number-below, number-above, near-zero, number_is}
+use Rattle.standing.proofs.numbers.number_of.Goals as goal
+
+pub returns-then-z-ge-NO_ENTRY : goal.returns-then-z-ge-NO_ENTRY
+returns-then-z-ge-NO_ENTRY c = number-none c.args.z c.ranges.z (simp (to_z-of_z c.ranges.z) at c.if-z-ge-NO_ENTRY.true)
+
+pub returns-then-z : goal.returns-then-z
+returns-then-z c =
+    number-below c.args.z (simp (to_z-of_z c.ranges.z) at c.if-z-ge-NO_ENTRY.false) (simp (to_z-of_z c.ranges.z) at c.if-z.true)
+
+pub returns-then-z-gt-FARTHEST : goal.returns-then-z-gt-FARTHEST
+returns-then-z-gt-FARTHEST c =
+    number-above c.args.z (simp (to_z-of_z c.ranges.z) at c.if-z-ge-NO_ENTRY.false) (simp (to_z-of_z c.ranges.z) at c.if-z-gt-FARTHEST.true)
+
+pub lifted-requires : goal.lifted-requires
+lifted-requires c =
+    let left : nat_abs c.args.z ≤ farthest = (near-zero c.args.z (simp (to_z-of_z c.ranges.z) at c.if-z.false) (simp (to_z-of_z c.ranges.z) at c.if-z-gt-FARTHEST.false)) in
+        let l = lifts-by middle c.args.z (omega (arith, left)) in
+    rw (to_z-of_z c.ranges.z) (omega arith, (l.b, (l.is, omega (arith, l.small))))
+
+pub returns : goal.returns
+returns c =
+    let left : nat_abs c.args.z ≤ farthest = (near-zero c.args.z (simp (to_z-of_z c.ranges.z) at c.if-z.false) (simp (to_z-of_z c.ranges.z) at c.if-z-gt-FARTHEST.false)) in
+        (rw (to_z-of_z c.ranges.z) at c.lifted.ensures)
+    ∙ number_is c.args.z (simp (to_z-of_z c.ranges.z) at c.if-z-ge-NO_ENTRY.false) (left)

@@ -1,0 +1,25 @@
+-- `numbers_of` meets its contract. Assumes nothing.
+use mathlib.Core.Path.{◌≡◌, refl, ap, ◌∙◌}
+use mathlib.Core.List.{List}
+use Prim.Native.Nat.{ℕ, ◌*◌, ◌-◌, ◌<◌, ◌≤◌}
+use native.Mathlib.Omega.{arith}
+use borrow.Author.Rules.{rules}
+use lib.IntN.{ℤ, pos}
+use lib.ListN.{length, get_or, length-set}
+use Rattle.laws.proofs.Lists.{front-more}
+use Rattle.meaning.specs.Limits.{most_events}
+use Rattle.problem.specs.Arcs.{at}
+use Rattle.lent.proofs.Signed.{element}
+use Rattle.standing.specs.Entries.{no_entry, said}
+use Rattle.standing.specs.Numbers.{number_of}
+use Rattle.standing.proofs.Listed.{any-default}
+use Rattle.standing.proofs.numbers.numbers_of.Given as goal
+
+abbrev pub number : List ℤ → ℕ → ℕ
+number entries k = number_of (said (get_or entries k no_entry))
+
+abbrev pub invariant-loop-k : goal.invariant-loop-k
+invariant-loop-k l = (l.k ≤ most_events * most_events) × (length l.numbers ≡ most_events * most_events) × ((i : ℕ) → i < l.k → at l.numbers i ≡ number l.entries i)
+
+abbrev pub decreases-loop-k : goal.decreases-loop-k
+decreases-loop-k l = most_events * most_events - l.k

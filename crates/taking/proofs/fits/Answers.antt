@@ -1,0 +1,23 @@
+-- `taking::fits` meets its contract: the arc read is the fact that is looked up. Assumes nothing.
+use native.Mathlib.Omega.{arith}
+use borrow.Author.Rules.{rules}
+use Rattle.problem.specs.Arcs.{net, arc}
+use Rattle.taking.proofs.Lying.{arc-stands}
+use Rattle.taking.proofs.fits.Goals as goal
+
+pub fits_with-requires : goal.fits_with-requires
+fits_with-requires c =
+    (
+      c.requires.0,
+      omega arith,
+      omega (arith, c.wide.ensures, c.requires.1.in_head),
+      omega (arith, c.wide-2.ensures, c.requires.1.in_Tail),
+      c.requires.1.small,
+    )
+
+pub returns : goal.returns
+returns c =
+    let x = c.wide in
+    let y = c.wide-2 in
+    let g = net c.args.xs.now c.args.ys.now c.args.bs.now in
+    λ fs day. c.fits_with.ensures.decides fs (arc g c.args.j) (arc-stands g c.args.j x.result y.result x.ensures y.ensures) day

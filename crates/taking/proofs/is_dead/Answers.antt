@@ -1,0 +1,35 @@
+-- `taking::is_dead` meets its contract: what was found alive, or whether the arcs still to come are dead, is whether all are. Assumes nothing.
+use mathlib.Core.Path.{◌≡◌, refl}
+use mathlib.Core.Bool.{false, cond}
+use mathlib.Core.Logic.{⊎_elim}
+use mathlib.Core.List.{List}
+use Prim.Native.Nat.{◌+◌, ◌-◌, ◌≤◌}
+use native.Mathlib.Omega.{arith}
+use Rattle.meaning.specs.Problem.{Alternative}
+use Rattle.meaning.specs.Decision.{sound}
+use Rattle.meaning.specs.Search.{dead}
+use Rattle.problem.specs.Arcs.{net, arcs_from}
+use Rattle.distances.specs.Distances.{DayOf}
+use Rattle.distances.specs.Numbers.{table_at}
+use Rattle.taking.proofs.Dying.{alive-yes, alive-no, alive-end, alive-then}
+use Rattle.taking.proofs.is_dead.Goals as goal
+
+pub loop-j-init : goal.loop-j-init
+loop-j-init c = (λ fs day. refl, c.requires.1)
+
+pub fits-requires : goal.fits-requires
+fits-requires c =     (c.requires.0, c.requires.3 c.loop-j.j c.loop-j-test.true, omega arith, c.requires.4)
+
+pub loop-j-preserved : goal.loop-j-preserved
+loop-j-preserved c =
+    let g = net c.args.xs.now c.args.ys.now c.args.bs.now in (
+      λ fs day. ⊎_elim
+          (λ w. alive-then fs g (c.loop-j.j + 1) c.args.end _ w.1 (alive-yes fs g c.loop-j.j c.args.end _ c.loop-j.alive (c.loop-j.invariant.0 fs day) c.loop-j-test.true c.fits2.result (c.fits2.ensures fs day) w.0.taken))
+          (λ w. alive-then fs g (c.loop-j.j + 1) c.args.end _ w.1 (alive-no fs g c.loop-j.j c.args.end _ c.loop-j.alive (c.loop-j.invariant.0 fs day) c.loop-j-test.true c.fits2.result (c.fits2.ensures fs day) w.0.left))
+          c.if-fits.branch,
+      omega arith,
+    )
+
+pub returns : goal.returns
+returns c =
+    λ fs day. alive-end fs (net c.args.xs.now c.args.ys.now c.args.bs.now) c.loop-j.j c.args.end _ c.loop-j.alive (c.loop-j.invariant.0 fs day) (omega arith)

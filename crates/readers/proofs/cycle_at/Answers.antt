@@ -23,7 +23,7 @@ all from facts e = take_all (65 - from) (drop from facts) (rw (length-drop from 
 
 pub returns-then-not-blank_from : goal.returns-then-not-blank_from
 returns-then-not-blank_from c =
-    let fs = facts_from c.args.p c.args.t2 c.args.from in
+    let fs = facts_from c.args.p c.args.facts c.args.from in
     sym (ap (cycle_over fs) (sym c.row_at-bytes.ensures) ∙ cycle-unfilled fs _ _ c.row_len-n.ensures (sym c.blank_from.ensures ∙ c.if-not-blank_from.true))
 
 pub slice_bounds-is_cycle-end-2 : goal.slice_bounds-is_cycle-end-2
@@ -35,13 +35,13 @@ pub is_cycle-requires : goal.is_cycle-requires
 is_cycle-requires c =
     let n = numbers-few c.row_at-bytes.result.now in
     let s : length c.row_at-bytes.result.now ≤ row_bytes = rw c.row_at-bytes.ensures (row-most row_bytes c.args.list.now c.args.row) in (
-      subst (λ (l : List ℕ). Known (arcs c.args.p) c.args.p.n l) (sym (all c.args.from c.args.t2 (search rules))) c.requires.0,
+      subst (λ (l : List ℕ). Known (arcs c.args.p) c.args.p.n l) (sym (all c.args.from c.args.facts (search rules))) c.requires.0,
       rw (length-take-le c.row_len-n.result c.row_at-bytes.result.now (omega (arith, c.row_len-n.ensures))) (omega (arith, c.row_len-n.ensures)),
     )
 
 pub returns : goal.returns
 returns c =
-    let fs = facts_from c.args.p c.args.t2 c.args.from in
+    let fs = facts_from c.args.p c.args.facts c.args.from in
     c.is_cycle.ensures
-    ∙ ap (λ (l : List ℕ). loops (map (arc (arcs c.args.p)) l) (take c.row_len-n.result c.row_at-bytes.result.now)) (all c.args.from c.args.t2 (search rules))
+    ∙ ap (λ (l : List ℕ). loops (map (arc (arcs c.args.p)) l) (take c.row_len-n.result c.row_at-bytes.result.now)) (all c.args.from c.args.facts (search rules))
     ∙ sym (ap (cycle_over fs) (sym c.row_at-bytes.ensures) ∙ cycle-filled fs _ _ c.row_len-n.ensures (sym c.blank_from.ensures ∙ c.if-not-blank_from.false))

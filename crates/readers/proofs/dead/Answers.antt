@@ -16,11 +16,11 @@ use Rattle.readers.proofs.Turns.{Testing, test-start, test-end, test-number, tes
 use Rattle.readers.proofs.dead.Goals as goal
 
 pub returns-then-d-k : goal.returns-then-d-k
-returns-then-d-k c = record { is = sym (dead-chosen c.args.t1 _ _ _ c.requires.1.all _ _ c.if-d-k.true); reached = tt }
+returns-then-d-k c = record { is = sym (dead-chosen c.args.p _ _ _ c.requires.1.all _ _ c.if-d-k.true); reached = tt }
 
 pub returns-then-p-d : goal.returns-then-p-d
 returns-then-p-d c =
-    record { is = sym (dead-past c.args.t1 _ _ _ c.requires.1.all _ _ c.if-d-k.false c.if-p-d.true); reached = tt }
+    record { is = sym (dead-past c.args.p _ _ _ c.requires.1.all _ _ c.if-d-k.false c.if-p-d.true); reached = tt }
 
 pub overflow_add-d : goal.overflow_add-d
 overflow_add-d c = omega (arith, c.requires.0.few)
@@ -43,7 +43,7 @@ overflow_sub-first c = omega (arith, c.requires.0.ends c.args.k (omega arith), c
 pub loop-j-init : goal.loop-j-init
 loop-j-init c =
     let h : length c.args.facts ≡ 65 = search rules in
-    test-start c.args.t1 c.requires.0 (rows_of row_bytes c.args.list.now) c.args.d c.args.k c.args.left _ _ c.args.facts c.args.from c.args.row h c.requires.1 c.if-d-k.false c.if-p-d.false c.wide-end.ensures c.wide-j.ensures (omega (arith, c.requires.2, rows-count row_bytes c.args.list.now))
+    test-start c.args.p c.requires.0 (rows_of row_bytes c.args.list.now) c.args.d c.args.k c.args.left _ _ c.args.facts c.args.from c.args.row h c.requires.1 c.if-d-k.false c.if-p-d.false c.wide-end.ensures c.wide-j.ensures (omega (arith, c.requires.2, rows-count row_bytes c.args.list.now))
 
 pub overflow_cast-known : goal.overflow_cast-known
 overflow_cast-known c =

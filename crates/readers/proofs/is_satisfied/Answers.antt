@@ -14,16 +14,16 @@ use Rattle.problem.specs.Arcs.{bias, at}
 use Rattle.readers.proofs.is_satisfied.Goals as goal
 
 pub bounds-p-j : goal.bounds-p-j
-bounds-p-j c = let h : length c.args.t1.xs ≡ 128 = search rules in omega (arith, c.requires.0.in-xs)
+bounds-p-j c = let h : length c.args.p.xs ≡ 128 = search rules in omega (arith, c.requires.0.in-xs)
 
 pub bounds-p-j-2 : goal.bounds-p-j-2
-bounds-p-j-2 c = let h : length c.args.t1.ys ≡ 128 = search rules in omega (arith, c.requires.0.in_ys)
+bounds-p-j-2 c = let h : length c.args.p.ys ≡ 128 = search rules in omega (arith, c.requires.0.in_ys)
 
 pub offset_bounds-p-j : goal.offset_bounds-p-j
-offset_bounds-p-j c = let h : length c.args.t1.bs ≡ 128 = search rules in omega (arith, c.requires.0.in-bs)
+offset_bounds-p-j c = let h : length c.args.p.bs ≡ 128 = search rules in omega (arith, c.requires.0.in-bs)
 
 pub bounds-p-j-3 : goal.bounds-p-j-3
-bounds-p-j-3 c = let h : length c.args.t1.bs ≡ 128 = search rules in omega (arith, c.requires.0.in-bs)
+bounds-p-j-3 c = let h : length c.args.p.bs ≡ 128 = search rules in omega (arith, c.requires.0.in-bs)
 
 pub returns : goal.returns
 unfolding satisfied
@@ -33,7 +33,7 @@ returns c =
     let tx = get_or c.args.times.now x.result (pos 0) in
     let ty = get_or c.args.times.now y.result (pos 0) in
     c.at_most.ensures
-    ∙ ap (λ (z : ℤ). le_z (z -ℤ to_z w32 (of_z w32 ty)) (sub_ℕ (at c.args.t1.bs c.args.j) bias)) (element tx c.at_most-arg-1.given)
-    ∙ ap (λ (z : ℤ). le_z (tx -ℤ z) (sub_ℕ (at c.args.t1.bs c.args.j) bias)) (element ty c.at_most-arg-2-1.given)
-    ∙ ap (λ (e : ℕ). le_z (get_or c.args.times.now e (pos 0) -ℤ ty) (sub_ℕ (at c.args.t1.bs c.args.j) bias)) x.ensures
-    ∙ ap (λ (e : ℕ). le_z (get_or c.args.times.now (at c.args.t1.xs c.args.j) (pos 0) -ℤ get_or c.args.times.now e (pos 0)) (sub_ℕ (at c.args.t1.bs c.args.j) bias)) y.ensures
+    ∙ ap (λ (z : ℤ). le_z (z -ℤ to_z w32 (of_z w32 ty)) (sub_ℕ (at c.args.p.bs c.args.j) bias)) (element tx c.at_most-arg-1.given)
+    ∙ ap (λ (z : ℤ). le_z (tx -ℤ z) (sub_ℕ (at c.args.p.bs c.args.j) bias)) (element ty c.at_most-arg-2-1.given)
+    ∙ ap (λ (e : ℕ). le_z (get_or c.args.times.now e (pos 0) -ℤ ty) (sub_ℕ (at c.args.p.bs c.args.j) bias)) x.ensures
+    ∙ ap (λ (e : ℕ). le_z (get_or c.args.times.now (at c.args.p.xs c.args.j) (pos 0) -ℤ get_or c.args.times.now e (pos 0)) (sub_ℕ (at c.args.p.bs c.args.j) bias)) y.ensures

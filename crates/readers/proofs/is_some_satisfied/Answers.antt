@@ -28,7 +28,7 @@ wide-j-requires c = tt
 
 pub loop-j-init : goal.loop-j-init
 loop-j-init c =
-    let b = numbers c.args.t1 c.requires.0 c.args.k c.requires.2 in
+    let b = numbers c.args.p c.requires.0 c.args.k c.requires.2 in
     let z : suc c.args.k ≡ c.args.k + 1 = omega arith in
     let x = c.wide-end.ensures in
     let y = c.wide-j.ensures in

@@ -12,11 +12,11 @@ extend-requires c =
     let y = c.wide-then-fits in
     let x = c.wide in
     let if1 = c.if-fits in
-    let fits2 = c.fits2 in
+    let fits2 = c.fits in
     let g = net c.args.xs.now c.args.ys.now c.args.bs.now in
     let j = c.args.j in
     let l : x.result < c.args.n = omega (arith, x.ensures, c.requires.3.in_head) in
-    let m : y.result < c.args.n = omega (arith, y.ensures, c.requires.3.in_Tail) in (
+    let m : y.result < c.args.n = omega (arith, y.ensures, c.requires.3.in_tail) in (
       c.requires.0,
       c.requires.1,
       omega arith,
@@ -32,7 +32,7 @@ returns-then-fits c =
     let y = c.wide-then-fits in
     let x = c.wide in
     let if1 = c.if-fits in
-    let fits2 = c.fits2 in
+    let fits2 = c.fits in
     let g = net c.args.xs.now c.args.ys.now c.args.bs.now in
     let j = c.args.j in
     adds_one c.args.days.now c.args.from c.args.to c.args.n (arc g j) fits2.result fits2.ensures if1.true x.result y.result (bound g j) c.extend.new.s c.extend.ensures.numbers
@@ -40,5 +40,5 @@ returns-then-fits c =
 
 pub returns-else-fits : goal.returns-else-fits
 returns-else-fits c =
-    let fits2 = c.fits2 in
+    let fits2 = c.fits in
     adds_none c.args.days.now c.args.from c.args.to c.args.n (arc (net c.args.xs.now c.args.ys.now c.args.bs.now) c.args.j) fits2.result fits2.ensures c.if-fits.false

@@ -11,7 +11,7 @@ fits_with-requires c =
       c.requires.0,
       omega arith,
       omega (arith, c.wide.ensures, c.requires.1.in_head),
-      omega (arith, c.wide-2.ensures, c.requires.1.in_Tail),
+      omega (arith, c.wide-2.ensures, c.requires.1.in_tail),
       c.requires.1.small,
     )
 

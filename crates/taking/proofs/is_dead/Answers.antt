@@ -24,8 +24,8 @@ pub loop-j-preserved : goal.loop-j-preserved
 loop-j-preserved c =
     let g = net c.args.xs.now c.args.ys.now c.args.bs.now in (
       λ fs day. ⊎_elim
-          (λ w. alive-then fs g (c.loop-j.j + 1) c.args.end _ w.1 (alive-yes fs g c.loop-j.j c.args.end _ c.loop-j.alive (c.loop-j.invariant.0 fs day) c.loop-j-test.true c.fits2.result (c.fits2.ensures fs day) w.0.taken))
-          (λ w. alive-then fs g (c.loop-j.j + 1) c.args.end _ w.1 (alive-no fs g c.loop-j.j c.args.end _ c.loop-j.alive (c.loop-j.invariant.0 fs day) c.loop-j-test.true c.fits2.result (c.fits2.ensures fs day) w.0.left))
+          (λ w. alive-then fs g (c.loop-j.j + 1) c.args.end _ w.1 (alive-yes fs g c.loop-j.j c.args.end _ c.loop-j.alive (c.loop-j.invariant.0 fs day) c.loop-j-test.true c.fits.result (c.fits.ensures fs day) w.0.taken))
+          (λ w. alive-then fs g (c.loop-j.j + 1) c.args.end _ w.1 (alive-no fs g c.loop-j.j c.args.end _ c.loop-j.alive (c.loop-j.invariant.0 fs day) c.loop-j-test.true c.fits.result (c.fits.ensures fs day) w.0.left))
           c.if-fits.branch,
       omega arith,
     )

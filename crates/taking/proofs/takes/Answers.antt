@@ -15,7 +15,7 @@ fits-requires c =     (omega arith, c.requires.4.own c.args.last (omega arith), 
 pub returns-then-not-fits : goal.returns-then-not-fits
 returns-then-not-fits c =
     let g = net c.args.xs.now c.args.ys.now c.args.bs.now in
-    takes_none c.args.days.now c.args.from c.args.to c.args.n g c.args.first c.args.last c.fits2.result c.fits2.ensures c.if-not-fits.true
+    takes_none c.args.days.now c.args.from c.args.to c.args.n g c.args.first c.args.last c.fits.result c.fits.ensures c.if-not-fits.true
 
 pub loop-j-init : goal.loop-j-init
 loop-j-init c =

@@ -12,6 +12,7 @@ use Rattle.shortest.specs.Best.{Best}
 use Rattle.shortest.proofs.Choosing.{best-start, best-new, best-old}
 use Rattle.shortest.proofs.Naming.{best-names}
 use Rattle.shortest.proofs.reason.Goals as goal
+use Rattle.shortest.proofs.reason.Goals.{then-goes_before, else-goes_before}
 
 pub loop-t-init : goal.loop-t-init
 loop-t-init c = (best-start _ _ _ _, search rules, omega arith)
@@ -25,9 +26,9 @@ loop-t-preserved c =
     let l = c.loop-t in
     let q = c.look-new.ensures in
     let says = c.goes_before.ensures in (
-      ⊎_elim (λ w. rw w.1 (best-new _ _ c.args.n l.t c.smaller-most.result l.best.size _ l.best.row _ c.requires.2 c.smaller-most.ensures.2 l.invariant.0 q (says.yes w.0.taken)))
-          (λ w. rw w.1 (best-old _ _ c.args.n l.t c.smaller-most.result l.best.size _ l.best.row _ c.requires.2 c.smaller-most.ensures.2 l.invariant.0 q (says.no w.0.left)))
-          c.if-goes_before.branch,
+      elim c.if-goes_before.branch [
+          then-goes_before w ↦ rw w.best-is (best-new _ _ c.args.n l.t c.smaller-most.result l.best.size _ l.best.row _ c.requires.2 c.smaller-most.ensures.2 l.invariant.0 q (says.yes w.if-goes_before.true))
+        | else-goes_before w ↦ rw w.best-is (best-old _ _ c.args.n l.t c.smaller-most.result l.best.size _ l.best.row _ c.requires.2 c.smaller-most.ensures.2 l.invariant.0 q (says.no w.if-goes_before.false)) ],
       search rules,
       omega arith,
     )

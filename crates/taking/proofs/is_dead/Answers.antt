@@ -13,6 +13,7 @@ use Rattle.distances.specs.Distances.{DayOf}
 use Rattle.distances.specs.Numbers.{table_at}
 use Rattle.taking.proofs.Dying.{alive-yes, alive-no, alive-end, alive-then}
 use Rattle.taking.proofs.is_dead.Goals as goal
+use Rattle.taking.proofs.is_dead.Goals.{then-fits, else-fits}
 
 pub loop-j-init : goal.loop-j-init
 loop-j-init c = (λ fs day. refl, c.requires.1)
@@ -23,10 +24,9 @@ fits-requires c =     (c.requires.0, c.requires.3 c.loop-j.j c.loop-j-test.true,
 pub loop-j-preserved : goal.loop-j-preserved
 loop-j-preserved c =
     let g = net c.args.xs.now c.args.ys.now c.args.bs.now in (
-      λ fs day. ⊎_elim
-          (λ w. alive-then fs g (c.loop-j.j + 1) c.args.end _ w.1 (alive-yes fs g c.loop-j.j c.args.end _ c.loop-j.alive (c.loop-j.invariant.0 fs day) c.loop-j-test.true c.fits.result (c.fits.ensures fs day) w.0.taken))
-          (λ w. alive-then fs g (c.loop-j.j + 1) c.args.end _ w.1 (alive-no fs g c.loop-j.j c.args.end _ c.loop-j.alive (c.loop-j.invariant.0 fs day) c.loop-j-test.true c.fits.result (c.fits.ensures fs day) w.0.left))
-          c.if-fits.branch,
+      λ fs day. elim c.if-fits.branch [
+          then-fits w ↦ alive-then fs g (c.loop-j.j + 1) c.args.end _ w.alive-is (alive-yes fs g c.loop-j.j c.args.end _ c.loop-j.alive (c.loop-j.invariant.0 fs day) c.loop-j-test.true c.fits.result (c.fits.ensures fs day) w.if-fits.true)
+        | else-fits w ↦ alive-then fs g (c.loop-j.j + 1) c.args.end _ w.alive-is (alive-no fs g c.loop-j.j c.args.end _ c.loop-j.alive (c.loop-j.invariant.0 fs day) c.loop-j-test.true c.fits.result (c.fits.ensures fs day) w.if-fits.false) ],
       omega arith,
     )
 

@@ -32,19 +32,19 @@ passes-r-requires c =
       c.requires.4.turned j (omega arith),
       c.requires.4.opposites j (omega arith),
       omega (arith, c.requires.4.few),
-      c.loop-j.invariant.3,
+      c.loop-j.invariant.3.before,
       taking-held c.args.days.now c.args.from c.args.to c.args.n g c.args.first c.loop-j.days j c.loop-j.base c.loop-j.invariant.3 c.requires.5,
     )
 
 pub returns-then-not-r : goal.returns-then-not-r
 returns-then-not-r c =
     let g = net c.args.xs.now c.args.ys.now c.args.bs.now in
-    taking-fails c.args.days.now c.args.from c.args.to c.args.n g c.args.first c.loop-j.days c.loop-j.j c.loop-j.base c.loop-j.invariant.3 c.passes-r.new.days c.args.last c.passes-r.result c.loop-j.invariant.0 c.loop-j-test.true c.if-not-r.true c.passes-r.ensures
+    taking-fails c.args.days.now c.args.from c.args.to c.args.n g c.args.first c.loop-j.days c.loop-j.j c.loop-j.base c.loop-j.invariant.3 c.passes-r.new.days c.args.last c.passes-r.result c.loop-j.invariant.0 c.loop-j-test.true (not-true _ c.if-not-r.true) c.passes-r.ensures
 
 pub loop-j-preserved : goal.loop-j-preserved
 loop-j-preserved c =
     let g = net c.args.xs.now c.args.ys.now c.args.bs.now in
-    let t = taking-more c.args.days.now c.args.from c.args.to c.args.n g c.args.first c.loop-j.days c.loop-j.j c.loop-j.base c.loop-j.invariant.3 c.passes-r.new.days c.passes-r.result c.loop-j.invariant.0 c.if-not-r.false c.passes-r.ensures in
+    let t = taking-more c.args.days.now c.args.from c.args.to c.args.n g c.args.first c.loop-j.days c.loop-j.j c.loop-j.base c.loop-j.invariant.3 c.passes-r.new.days c.passes-r.result c.loop-j.invariant.0 (not-false _ c.if-not-r.false) c.passes-r.ensures in
     (omega arith, omega arith, c.passes-r.ensures.room, t)
 
 pub adds-requires : goal.adds-requires
@@ -54,7 +54,7 @@ adds-requires c =
       omega (arith, c.loop-j.invariant.3.long),
       c.requires.2,
       c.requires.4.own c.args.last (omega arith),
-      c.loop-j.invariant.3,
+      c.loop-j.invariant.3.before,
       omega (arith, c.requires.4.few),
       taking-held c.args.days.now c.args.from c.args.to c.args.n g c.args.first c.loop-j.days c.loop-j.j c.loop-j.base c.loop-j.invariant.3 c.requires.5,
     )

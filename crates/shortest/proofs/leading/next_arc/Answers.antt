@@ -7,6 +7,7 @@ use lib.ListN.{length}
 use Rattle.problem.specs.Arcs.{net}
 use Rattle.shortest.proofs.Picking.{Picking, picking-start, picking-kept, picking-taken, picking-end}
 use Rattle.shortest.proofs.leading.next_arc.Goals as goal
+use Rattle.shortest.proofs.leading.next_arc.Goals.{then-j-best+then-leads, then-j-best+else-leads, else-j-best}
 
 pub loop-i-init : goal.loop-i-init
 loop-i-init c = picking-start _ _ _ _ _ _ (omega arith)
@@ -17,10 +18,10 @@ leads-requires c =     rw c.wide.ensures (c.requires.0.known.each c.loop-i.i (om
 pub loop-i-preserved : goal.loop-i-preserved
 loop-i-preserved c =
     let l = c.loop-i in
-    ⊎_elim (λ w. rw w.4 (picking-taken _ _ _ _ _ l.best l.i l.invariant (omega arith) (rw (← w.1.ensures) (w.2.ensures.yes w.3.taken)) w.0.taken))
-    (⊎_elim (λ w. rw w.4 (picking-kept _ _ _ _ _ l.best l.i l.invariant (omega arith) (λ h. absurd (w.2.ensures.no w.3.left (rw w.1.ensures h)))))
-    (λ w. rw w.1 (picking-kept _ _ _ _ _ l.best l.i l.invariant (omega arith) (λ h. w.0.left))))
-    c.if-j-best.branch
+    elim c.if-j-best.branch [
+      then-j-best+then-leads w ↦ rw w.best-is (picking-taken _ _ _ _ _ l.best l.i l.invariant (omega arith) (rw (← w.wide.ensures) (w.leads.ensures.yes w.if-leads.true)) w.if-j-best.true)
+    | then-j-best+else-leads w ↦ rw w.best-is (picking-kept _ _ _ _ _ l.best l.i l.invariant (omega arith) (λ h. absurd (w.leads.ensures.no w.if-leads.false (rw w.wide.ensures h))))
+    | else-j-best w ↦ rw w.best-is (picking-kept _ _ _ _ _ l.best l.i l.invariant (omega arith) (λ h. w.if-j-best.false)) ]
 
 pub returns : goal.returns
 returns c = picking-end _ _ _ _ _ c.loop-i.best c.loop-i.i c.loop-i.invariant (omega arith)

@@ -1,0 +1,16 @@
+-- `search::standing::first_dead` meets its contract: none of the clauses passed is dead. Assumes nothing.
+use mathlib.Core.Path.{◌≡◌, sym, ap, ◌∙◌}
+use Prim.Native.Nat.{ℕ, ◌-◌, ◌<◌, ◌≤◌}
+use native.Mathlib.Omega.{arith}
+use Rattle.meaning.specs.Decision.{sound}
+use Rattle.meaning.specs.Search.{first_dead}
+use Rattle.problem.specs.Laid.{clauses_from}
+use Rattle.held.specs.Held.{facts_in}
+use Rattle.search.proofs.Dead.{ahead, ahead-zero, first_step, first_found, first-none}
+use Rattle.search.proofs.standing.first_dead.Given as goal
+
+abbrev pub invariant-loop-d : goal.invariant-loop-d
+invariant-loop-d l = (first_dead sound (facts_in l.p l.f) (clauses_from l.p l.k (l.p.m - l.k)) ≡ ahead (l.d - l.k) (first_dead sound (facts_in l.p l.f) (clauses_from l.p l.d (l.p.m - l.d)))) × (l.k ≤ l.d) × (l.d ≤ l.p.m)
+
+abbrev pub decreases-loop-d : goal.decreases-loop-d
+decreases-loop-d l = l.p.m - l.d

@@ -1,5 +1,6 @@
 // Scripts of the subset of SMT-LIB 2 of request A1: read where they lie, into a problem as `plan` takes it, and written into lent room.
 #![tactic(auto)]
+
 mod names;
 mod plain;
 mod reader;

@@ -93,6 +93,7 @@ at-most-kept d (far p) none h = tt
 at-most-kept d (far p) (far q) h = go d (h p q refl refl)
   where
     go : (d : Distance) → AtMost d (p +ℤ q) → T (no_longer d (far (p +ℤ q)))
+    go none x'' = elim x'' [ ]
     go (far z) (most k) = k.le
 
 pub own-facts : (n : ℕ) (d : Table) → Passes n d → DayOf n (own_facts n d) d

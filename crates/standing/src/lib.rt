@@ -1,5 +1,6 @@
 // The standing day of 02, A8: a day that follows the slider, one fact after another.
 #![tactic(auto)]
+
 mod adding;
 mod check;
 mod lying;

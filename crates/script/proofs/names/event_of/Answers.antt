@@ -1,12 +1,11 @@
 -- `event_of` meets its contract: i and the event among the words from the i-th on stay the event among all. Assumes nothing.
 use mathlib.Core.Path.{◌≡◌}
-use Prim.Native.Nat.{◌+◌, ◌-◌, ◌≤◌}
 use native.Mathlib.Omega.{arith}
 use borrow.Author.Rules.{rules}
 use lib.ListN.{length}
 use Rattle.meaning.specs.Limits.{most_events}
 use Rattle.script.proofs.Wording.{apart_by}
-use Rattle.script.proofs.Declaring.{names-count, event_from, event-here, event-later, event-end}
+use Rattle.script.proofs.Declaring.{names-count, event-here, event-later, event-end}
 use Rattle.script.proofs.names.event_of.Goals as goal
 
 pub loop-i-init : goal.loop-i-init

@@ -1,6 +1,5 @@
 -- `is_new` meets its contract: as many events as names have a number below theirs. Assumes nothing.
 use mathlib.Core.Path.{sym, ◌∙◌}
-use borrow.Author.Rules.{rules}
 use Rattle.script.proofs.Declaring.{long-not-new, kept-not-new, new-by-event}
 use Rattle.script.proofs.names.is_new.Goals as goal
 

@@ -3,7 +3,6 @@ use mathlib.Core.Path.{◌≡◌, subst}
 use mathlib.Core.List.{[], ◌∷◌, ◌++◌}
 use Prim.Native.Nat.{ℕ, ◌/◌, ◌≤◌, ◌<◌}
 use native.Mathlib.Omega.{arith}
-use borrow.Author.Rules.{rules}
 use lib.ListN.{length}
 use Rattle.meaning.specs.Limits.{most_clauses, most_alternatives}
 use Rattle.script.specs.Reading.{with_clause}

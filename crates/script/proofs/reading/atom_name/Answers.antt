@@ -2,7 +2,6 @@
 use mathlib.Core.Path.{◌≡◌, sym, ◌∙◌, subst}
 use Prim.Native.Nat.{ℕ, ◌≤◌, ◌<◌}
 use native.Mathlib.Omega.{arith}
-use borrow.Author.Rules.{rules}
 use lib.ListN.{length}
 use lib.Seq.{slice}
 use Rattle.laws.proofs.Lists.{drop-take}
@@ -32,7 +31,7 @@ overflow_cast-known c = omega (arith, c.requires.kept.names-within.few)
 pub returns-then-is_again : goal.returns-then-is_again
 returns-then-is_again c =
     let named : let a = c.args in let names = names_of a.text.now a.notes.names in let word = slice a.from a.to a.text.now in (c.event_of-event.result ≡ event_of names word) × (event_of names word < length names) = (let a = c.args in let e = c.event_of-event in let is : e.result ≡ event_of (names_of a.text.now a.notes.names) (slice a.from a.to a.text.now) = rw (← (drop-take a.from a.to a.text.now)) at e.ensures.event in (is, omega (arith, e.ensures.count, c.if-names-event.false, is))) in
-        let a = c.args in
+    let a = c.args in
     let r = a.notes in
     let text = a.text.now in
     let w = slice a.from a.to text in
@@ -43,7 +42,7 @@ returns-then-is_again c =
 pub returns : goal.returns
 returns c =
     let named : let a = c.args in let names = names_of a.text.now a.notes.names in let word = slice a.from a.to a.text.now in (c.event_of-event.result ≡ event_of names word) × (event_of names word < length names) = (let a = c.args in let e = c.event_of-event in let is : e.result ≡ event_of (names_of a.text.now a.notes.names) (slice a.from a.to a.text.now) = rw (← (drop-take a.from a.to a.text.now)) at e.ensures.event in (is, omega (arith, e.ensures.count, c.if-names-event.false, is))) in
-        let a = c.args in
+    let a = c.args in
     let r = a.notes in
     let text = a.text.now in
     let w = slice a.from a.to text in

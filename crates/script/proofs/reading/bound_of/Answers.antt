@@ -1,7 +1,6 @@
 -- `script::bound_of` meets its contract. Assumes nothing.
 use mathlib.Core.Path.{◌∙◌}
 use native.Mathlib.Omega.{arith}
-use borrow.Author.Rules.{rules}
 use mir.Syntax.{w32}
 use mir.Facts.{to_z_pos, to_z-of_z}
 use Rattle.script.proofs.reading.bound_of.Goals as goal

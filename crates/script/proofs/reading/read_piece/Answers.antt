@@ -1,8 +1,8 @@
 -- `script::read_piece` meets its contract: by the role's number, one function each. Assumes nothing.
 use mathlib.Core.Path.{◌≡◌, refl, sym, ◌∙◌, subst}
 use mathlib.Core.List.{List}
-use Prim.Native.Nat.{ℕ}
-use borrow.Author.Rules.{rules}
+use Prim.Native.Nat.{ℕ, ◌≤◌, ◌<◌}
+use native.Mathlib.Omega.{arith}
 use lib.Seq.{slice}
 use Rattle.grammar.specs.Grammar.{Role, other, new_name, first_name, second_name, bound_digit, negated_digit, declaration_end, assert_end, check_end, role_no}
 use Rattle.grammar.proofs.Parts.{role-eq}
@@ -20,21 +20,21 @@ of-role text role from to r g ρ e t =
 
 -- a piece of no other role is passed over
 passed_over : (text : List ℕ) (role from to : ℕ) (r : Notes) → Ready text from to r
-    → (((((((Unit {0} × (role ≡ 1 → ⊥)) × (role ≡ 2 → ⊥)) × (role ≡ 3 → ⊥)) × (role ≡ 4 → ⊥)) × (role ≡ 5 → ⊥)) × (role ≡ 6 → ⊥)) × (role ≡ 7 → ⊥)) × (role ≡ 8 → ⊥)
+    → (1 ≤ role → 8 < role)
     → Reads text role from to r (record { number = 0; place = 0; notes = r })
 unfolding role_no read_piece
 passed_over text role from to r ready rest = record { took = took }
   where
     took : (σ : Role) → role_no σ ≡ role → Took text (read_piece σ from (slice from to text)) r to (record { number = 0; place = 0; notes = r })
     took other e = took-going text from to r ready (read_piece other from (slice from to text)) r (λ R. R) (kept_on text from to r ready) (λ R a. refl) (λ R a. a)
-    took new_name e = absurd (rest.0.0.0.0.0.0.0.1 (sym e))
-    took first_name e = absurd (rest.0.0.0.0.0.0.1 (sym e))
-    took second_name e = absurd (rest.0.0.0.0.0.1 (sym e))
-    took bound_digit e = absurd (rest.0.0.0.0.1 (sym e))
-    took negated_digit e = absurd (rest.0.0.0.1 (sym e))
-    took declaration_end e = absurd (rest.0.0.1 (sym e))
-    took assert_end e = absurd (rest.0.1 (sym e))
-    took check_end e = absurd (rest.1 (sym e))
+    took new_name e = absurd (omega arith)
+    took first_name e = absurd (omega arith)
+    took second_name e = absurd (omega arith)
+    took bound_digit e = absurd (omega arith)
+    took negated_digit e = absurd (omega arith)
+    took declaration_end e = absurd (omega arith)
+    took assert_end e = absurd (omega arith)
+    took check_end e = absurd (omega arith)
 
 pub returns-in-1 : goal.returns-in-1
 unfolding role_no read_piece
@@ -77,4 +77,5 @@ returns-in-8 c =
     of-role c.args.text.now c.args.role c.args.from c.args.to c.args.notes _ check_end c.in-8.is (c.check_end.ensures.took c.args.text.now c.args.from c.args.to c.requires)
 
 pub returns-in_default : goal.returns-in_default
-returns-in_default c =     passed_over c.args.text.now c.args.role c.args.from c.args.to c.args.notes c.requires c.in_default.rest
+returns-in_default c =
+    passed_over c.args.text.now c.args.role c.args.from c.args.to c.args.notes c.requires (λ (h : 1 ≤ c.args.role). omega arith)

@@ -7,7 +7,6 @@ use lib.IntN.{ℤ, pos}
 use lib.ListN.{length, length-append}
 use mir.Syntax.{w32}
 use mir.Facts.{to_z_pos, to_z-of_z}
-use borrow.Author.Rules.{rules}
 use Rattle.meaning.specs.Limits.{most_alternatives}
 use Rattle.script.proofs.Fitting.{none-fitted, three-fitted}
 use Rattle.script.proofs.rules.with_alternative.Goals as goal

@@ -4,7 +4,6 @@ use mathlib.Core.List.{List}
 use Prim.Native.Nat.{ℕ, ◌<◌}
 use native.Mathlib.Omega.{arith}
 use lib.ListN.{set, length-append}
-use borrow.Author.Rules.{rules}
 use Rattle.meaning.specs.Limits.{most_clauses}
 use Rattle.script.proofs.Fitting.{one-fitted}
 use Rattle.script.proofs.rules.with_clause.Goals as goal

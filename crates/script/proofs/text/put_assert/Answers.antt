@@ -1,6 +1,5 @@
 -- `put_assert` meets its contract: one text after another. Assumes nothing.
 use mathlib.Core.List.{◌++◌, map}
-use borrow.Author.Rules.{rules}
 use Rattle.meaning.specs.Screen.{alternatives}
 use Rattle.dialogue.proofs.Buffers.{after}
 use Rattle.grammar.specs.Grammar.{bytes}

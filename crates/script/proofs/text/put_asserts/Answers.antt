@@ -1,22 +1,17 @@
 -- `put_asserts` meets its contract: writing the asserts that remain gives the same buffer. Assumes nothing.
-use Prim.Native.Nat.{◌+◌, ◌*◌, ◌-◌, ◌/◌, ◌≤◌}
+use Prim.Native.Nat.{◌+◌, ◌*◌, ◌-◌, ◌/◌}
 use lib.ListN.{length, get_or, take, drop}
-use lib.Dec.{T}
 use borrow.Author.Rules.{rules}
 use native.Mathlib.Omega.{arith}
-use mathlib.Core.Path.{◌≡◌, refl, sym, ◌∙◌}
+use mathlib.Core.Path.{refl, sym, ◌∙◌}
 use Rattle.dialogue.proofs.Buffers.{written_none, to_none, first}
-use Rattle.dialogue.specs.Written.{written, written_to}
-use Rattle.meaning.specs.Screen.{alternatives, clauses_of, stepped}
+use Rattle.meaning.specs.Screen.{alternatives, clauses_of}
 use Rattle.script.specs.Text.{assert_of}
 use Rattle.script.proofs.Putting.{asserts_from, next-count, asserts-on, asserts-off}
 use Rattle.script.proofs.text.put_asserts.Goals as goal
 
 pub loop-k-init : goal.loop-k-init
 loop-k-init c = (omega arith, (omega arith, (c.requires, (refl, (refl, refl)))))
-
-pub overflow_cast-end : goal.overflow_cast-end
-overflow_cast-end c = omega (arith, c.type_inv.counts c.loop-k.k)
 
 pub overflow_mul-from : goal.overflow_mul-from
 overflow_mul-from c =
@@ -46,6 +41,20 @@ slice_bounds-put_assert-count c =
     let f = next-count (length a.triples.now / 3) l.from l.k a.counts.now (omega arith) l.invariant.1.1.0 in
     omega (arith, f.up)
 
+pub slice_bounds-put_assert-start : goal.slice_bounds-put_assert-start
+slice_bounds-put_assert-start c =
+    let l = c.loop-k in
+    let a = c.args in
+    let f = next-count (length a.triples.now / 3) l.from l.k a.counts.now (omega arith) l.invariant.1.1.0 in
+    omega (arith, f.up)
+
+pub slice_bounds-put_assert-end : goal.slice_bounds-put_assert-end
+slice_bounds-put_assert-end c =
+    let l = c.loop-k in
+    let a = c.args in
+    let f = next-count (length a.triples.now / 3) l.from l.k a.counts.now (omega arith) l.invariant.1.1.0 in
+    omega (arith, f.within)
+
 pub loop-k-preserved : goal.loop-k-preserved
 loop-k-preserved c =
     let l = c.loop-k in
@@ -57,7 +66,7 @@ loop-k-preserved c =
     let p = c.put_assert-to in
     let clause = alternatives 0 (take (to * 3 - l.from * 3) (drop (l.from * 3) ts)) in
     let on = asserts-on ts counts l.from l.k (omega arith) f.up in
-    let g = first l.out l.to (assert_of clause) (asserts_from ts counts to (l.k + 1)) p.ensures in
+    let g = first l.out l.to (assert_of clause) (asserts_from ts counts to (l.k + 1)) (p.ensures.after, p.ensures.value) in
     (omega arith, (f.within, (f.rest, (search rules, (l.invariant.1.1.1.1.0 ∙ rw on g.0, l.invariant.1.1.1.1.1 ∙ rw on g.1)))))
 
 pub returns : goal.returns

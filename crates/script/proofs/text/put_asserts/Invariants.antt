@@ -1,19 +1,15 @@
 -- `put_asserts` meets its contract: writing the asserts that remain gives the same buffer. Assumes nothing.
-use Prim.Native.Nat.{◌+◌, ◌*◌, ◌-◌, ◌/◌, ◌≤◌}
-use lib.ListN.{length, get_or, take, drop}
+use Prim.Native.Nat.{◌-◌, ◌/◌, ◌≤◌}
+use lib.ListN.{length, drop}
 use lib.Dec.{T}
-use borrow.Author.Rules.{rules}
-use native.Mathlib.Omega.{arith}
-use mathlib.Core.Path.{◌≡◌, refl, sym, ◌∙◌}
-use Rattle.dialogue.proofs.Buffers.{written_none, to_none, first}
+use mathlib.Core.Path.{◌≡◌}
 use Rattle.dialogue.specs.Written.{written, written_to}
-use Rattle.meaning.specs.Screen.{alternatives, clauses_of, stepped}
-use Rattle.script.specs.Text.{assert_of}
-use Rattle.script.proofs.Putting.{asserts_from, next-count, asserts-on, asserts-off}
+use Rattle.meaning.specs.Screen.{stepped}
+use Rattle.script.proofs.Putting.{asserts_from}
 use Rattle.script.proofs.text.put_asserts.Given as goal
 
 abbrev pub invariant-loop-k : goal.invariant-loop-k
-invariant-loop-k l = 
+invariant-loop-k l =
     (l.k ≤ length l.counts)
     × ((l.from ≤ length l.triples / 3)
     × (T (stepped (length l.triples / 3) l.from (drop l.k l.counts))

@@ -1,7 +1,6 @@
 -- `put_atom` meets its contract: one text after another. Assumes nothing.
 use mathlib.Core.Path.{◌≡◌}
 use mir.Facts.{to_z-of_z}
-use borrow.Author.Rules.{rules}
 use lib.IntN.{nat_abs}
 use mathlib.Core.List.{◌++◌}
 use Rattle.dialogue.proofs.Buffers.{after}

@@ -1,15 +1,14 @@
 -- `put_atoms` meets its contract: writing the atoms that remain gives the same buffer. Assumes nothing.
 use mir.Val.{SFits}
 use mir.Facts.{to_z-of_z}
-use lib.ListN.{length, drop, get_or}
-use mathlib.Core.List.{map}
+use lib.ListN.{length, get_or}
 use mir.Syntax.{w32}
 use native.Mathlib.Omega.{arith}
 use lib.IntN.{pos}
-use Prim.Native.Nat.{◌+◌, ◌*◌, ◌-◌, ◌/◌, ◌≤◌, ◌<◌}
+use Prim.Native.Nat.{◌+◌, ◌*◌, ◌≤◌, ◌<◌}
 use borrow.Author.Rules.{rules}
 use mathlib.Core.Path.{◌≡◌, refl, sym, ◌∙◌}
-use Rattle.dialogue.specs.Written.{written, written_to, led}
+use Rattle.dialogue.specs.Written.{written, written_to}
 use Rattle.dialogue.proofs.Buffers.{led-written, led-to, led-end, led-end-to}
 use Rattle.meaning.specs.Plain.{nowhere}
 use Rattle.meaning.specs.Screen.{alternatives}
@@ -30,8 +29,9 @@ loop-j-preserved c =
     let fx : SFits w32 (get_or ts (l.j * 3) (pos 0)) = search rules in
     let fy : SFits w32 (get_or ts (l.j * 3 + 1) (pos 0)) = search rules in
     let fc : SFits w32 (get_or ts (l.j * 3 + 2) (pos 0)) = search rules in
+    let q = c.put_atom-to.ensures in
     let e : (c.put_atom-to.new.out ≡ written c.put-to.new.out c.put-to.result (atom_text (get_or (alternatives 0 ts) l.j nowhere))) × (c.put_atom-to.result ≡ written_to c.put-to.new.out c.put-to.result (atom_text (get_or (alternatives 0 ts) l.j nowhere))) =
-    rw (alternative-at l.j ts inside) (rw (to_z-of_z fx, to_z-of_z fy, to_z-of_z fc) at c.put_atom-to.ensures) in (
+    rw (alternative-at l.j ts inside) (rw (to_z-of_z {w = w32} fx, to_z-of_z {w = w32} fy, to_z-of_z {w = w32} fc) at q.after, rw (to_z-of_z {w = w32} fx, to_z-of_z {w = w32} fy, to_z-of_z {w = w32} fc) at q.value) in (
       l.invariant.0,
       (
         omega arith,

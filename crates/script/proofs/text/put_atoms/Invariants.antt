@@ -1,25 +1,15 @@
 -- `put_atoms` meets its contract: writing the atoms that remain gives the same buffer. Assumes nothing.
-use mir.Val.{SFits}
-use mir.Facts.{to_z-of_z}
-use lib.ListN.{length, drop, get_or}
+use lib.ListN.{length, drop}
 use mathlib.Core.List.{map}
-use mir.Syntax.{w32}
-use native.Mathlib.Omega.{arith}
-use lib.IntN.{pos}
-use Prim.Native.Nat.{◌+◌, ◌*◌, ◌-◌, ◌/◌, ◌≤◌, ◌<◌}
-use borrow.Author.Rules.{rules}
-use mathlib.Core.Path.{◌≡◌, refl, sym, ◌∙◌}
+use Prim.Native.Nat.{◌-◌, ◌/◌, ◌≤◌}
+use mathlib.Core.Path.{◌≡◌}
 use Rattle.dialogue.specs.Written.{written, written_to, led}
-use Rattle.dialogue.proofs.Buffers.{led-written, led-to, led-end, led-end-to}
-use Rattle.meaning.specs.Plain.{nowhere}
 use Rattle.meaning.specs.Screen.{alternatives}
-use Rattle.problem.proofs.Triples.{alternative-at}
-use Rattle.meaning.proofs.Accepted.{alternatives-count}
 use Rattle.script.specs.Text.{atom_text}
 use Rattle.script.proofs.text.put_atoms.Given as goal
 
 abbrev pub invariant-loop-j : goal.invariant-loop-j
-invariant-loop-j l = 
+invariant-loop-j l =
     (l.many ≡ length l.triples / 3) × ((l.j ≤ l.many) × ((length l.out ≡ length l.initial.out) × ((written l.initial.out l.at (led (map atom_text (alternatives 0 l.triples))) ≡ written l.out l.to (led (map atom_text (drop l.j (alternatives 0 l.triples))))) × (written_to l.initial.out l.at (led (map atom_text (alternatives 0 l.triples))) ≡ written_to l.out l.to (led (map atom_text (drop l.j (alternatives 0 l.triples))))))))
 
 abbrev pub decreases-loop-j : goal.decreases-loop-j

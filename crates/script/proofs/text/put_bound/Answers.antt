@@ -2,7 +2,6 @@
 use mathlib.Core.Path.{◌≡◌}
 use lib.IntN.{pos, nat_abs}
 use mir.Facts.{to_z-of_z}
-use borrow.Author.Rules.{rules}
 use mathlib.Core.List.{◌++◌}
 use mathlib.Core.Bool.{true, false}
 use lib.Signed.{lt_z}

@@ -1,6 +1,5 @@
 -- `put_declaration` meets its contract: one text after another. Assumes nothing.
 use mathlib.Core.List.{◌++◌}
-use borrow.Author.Rules.{rules}
 use Rattle.grammar.specs.Grammar.{bytes}
 use Rattle.dialogue.proofs.Buffers.{after}
 use Rattle.script.specs.Text.{name_of, declaration_of}

@@ -1,11 +1,9 @@
 -- `put_declarations` meets its contract: writing the declarations that remain gives the same buffer. Assumes nothing.
 use mathlib.Core.Path.{◌≡◌, refl, sym, ◌∙◌}
-use Prim.Native.Nat.{◌+◌, ◌≤◌, ◌-◌}
+use Prim.Native.Nat.{◌+◌, ◌-◌}
 use borrow.Author.Rules.{rules}
-use lib.ListN.{length}
 use native.Mathlib.Omega.{arith}
 use Rattle.dialogue.proofs.Buffers.{written_none, to_none, first}
-use Rattle.dialogue.specs.Written.{written, written_to}
 use Rattle.script.specs.Text.{declaration_of, declarations_from}
 use Rattle.script.proofs.Putting.{declarations-on, declarations-off}
 use Rattle.script.proofs.text.put_declarations.Goals as goal
@@ -21,7 +19,7 @@ loop-e-preserved c =
     let l = c.loop-e in
     let n = c.args.n in
     let p = c.put_declaration-to in
-    let f = first l.out l.to (declaration_of l.e) (declarations_from (l.e + 1) (n - (l.e + 1))) p.ensures in
+    let f = first l.out l.to (declaration_of l.e) (declarations_from (l.e + 1) (n - (l.e + 1))) (p.ensures.after, p.ensures.value) in
     let on = declarations-on l.e n (omega arith) in
     (omega arith, (search rules, (l.invariant.1.1.0 ∙ rw on f.0, l.invariant.1.1.1 ∙ rw on f.1)))
 

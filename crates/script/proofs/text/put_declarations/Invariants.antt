@@ -1,13 +1,9 @@
 -- `put_declarations` meets its contract: writing the declarations that remain gives the same buffer. Assumes nothing.
-use mathlib.Core.Path.{◌≡◌, refl, sym, ◌∙◌}
-use Prim.Native.Nat.{◌+◌, ◌≤◌, ◌-◌}
-use borrow.Author.Rules.{rules}
+use mathlib.Core.Path.{◌≡◌}
+use Prim.Native.Nat.{◌≤◌, ◌-◌}
 use lib.ListN.{length}
-use native.Mathlib.Omega.{arith}
-use Rattle.dialogue.proofs.Buffers.{written_none, to_none, first}
 use Rattle.dialogue.specs.Written.{written, written_to}
-use Rattle.script.specs.Text.{declaration_of, declarations_from}
-use Rattle.script.proofs.Putting.{declarations-on, declarations-off}
+use Rattle.script.specs.Text.{declarations_from}
 use Rattle.script.proofs.text.put_declarations.Given as goal
 
 abbrev pub invariant-loop-e : goal.invariant-loop-e

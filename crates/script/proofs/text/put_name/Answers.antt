@@ -1,5 +1,4 @@
 -- `put_name` meets its contract: one text after another. Assumes nothing.
-use borrow.Author.Rules.{rules}
 use Rattle.dialogue.specs.Written.{decimal}
 use Rattle.grammar.specs.Grammar.{bytes}
 use Rattle.dialogue.proofs.Buffers.{after}

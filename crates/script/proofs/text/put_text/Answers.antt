@@ -1,5 +1,4 @@
 -- `put_text` meets its contract: one text after another. Assumes nothing.
-use borrow.Author.Rules.{rules}
 use mathlib.Core.List.{◌++◌}
 use Rattle.grammar.specs.Grammar.{bytes}
 use Rattle.meaning.specs.Screen.{clauses_of}

@@ -1,6 +1,5 @@
 -- `fresh_day` meets its contract. Assumes nothing.
 use mathlib.Core.Path.{refl}
-use borrow.Author.Rules.{rules}
 use borrow.Author.Tests.{lt-leb, le-leb}
 use Rattle.meaning.specs.Limits.{most_events}
 use Rattle.meaning.specs.Screen.{first_failed}

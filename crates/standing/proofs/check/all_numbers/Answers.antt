@@ -1,15 +1,10 @@
 -- `all_numbers` meets its contract. Assumes nothing.
 use mathlib.Core.Path.{◌≡◌, sym, subst}
-use mathlib.Core.Bool.{Bool, true}
-use mathlib.Core.List.{List}
-use Prim.Native.Nat.{ℕ, ◌*◌, ◌-◌, ◌≤◌}
+use mathlib.Core.Bool.{true}
+use Prim.Native.Nat.{ℕ, ◌*◌}
 use native.Mathlib.Omega.{arith}
-use borrow.Author.Rules.{rules}
-use borrow.Author.Tests.{not-true, not-false}
 use Rattle.meaning.specs.Limits.{most_events}
-use Rattle.problem.specs.Arcs.{at}
-use Rattle.distances.specs.Numbers.{distance}
-use Rattle.standing.specs.Standing.{every, in_range}
+use Rattle.standing.specs.Standing.{every}
 use Rattle.standing.proofs.Every.{every-none, every_more, every-fails}
 use Rattle.standing.proofs.check.all_numbers.Invariants.{each}
 use Rattle.standing.proofs.check.all_numbers.Goals as goal

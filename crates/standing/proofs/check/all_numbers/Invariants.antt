@@ -1,16 +1,12 @@
 -- `all_numbers` meets its contract. Assumes nothing.
-use mathlib.Core.Path.{◌≡◌, sym, subst}
+use mathlib.Core.Path.{◌≡◌}
 use mathlib.Core.Bool.{Bool, true}
 use mathlib.Core.List.{List}
 use Prim.Native.Nat.{ℕ, ◌*◌, ◌-◌, ◌≤◌}
-use native.Mathlib.Omega.{arith}
-use borrow.Author.Rules.{rules}
-use borrow.Author.Tests.{not-true, not-false}
 use Rattle.meaning.specs.Limits.{most_events}
 use Rattle.problem.specs.Arcs.{at}
 use Rattle.distances.specs.Numbers.{distance}
 use Rattle.standing.specs.Standing.{every, in_range}
-use Rattle.standing.proofs.Every.{every-none, every_more, every-fails}
 use Rattle.standing.proofs.check.all_numbers.Given as goal
 
 abbrev pub each : List ℕ → ℕ → Bool

@@ -1,7 +1,6 @@
 -- `day_refusal` meets its contract. Assumes nothing.
 use mathlib.Core.Path.{◌∙◌, refl, sym}
-use borrow.Author.Rules.{rules}
-use borrow.Author.Tests.{not-true, not-false, lt-leb, le-leb}
+use borrow.Author.Tests.{lt-leb, le-leb}
 use Rattle.meaning.specs.Limits.{most_events}
 use Rattle.meaning.specs.Screen.{first_failed}
 use Rattle.standing.specs.Standing.{table_tests}

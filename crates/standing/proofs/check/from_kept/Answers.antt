@@ -1,13 +1,8 @@
 -- `from_kept` meets its contract. Assumes nothing.
 use mathlib.Core.Path.{◌≡◌, sym, subst}
-use mathlib.Core.Bool.{Bool, true}
-use mathlib.Core.List.{List}
-use Prim.Native.Nat.{ℕ, ◌-◌, ◌≤◌}
+use mathlib.Core.Bool.{true}
+use Prim.Native.Nat.{ℕ}
 use native.Mathlib.Omega.{arith}
-use borrow.Author.Tests.{not-true, not-false}
-use Rattle.meaning.specs.Limits.{most_events}
-use Rattle.distances.specs.Adding.{no_longer, and_then}
-use Rattle.distances.specs.Numbers.{table_at}
 use Rattle.standing.specs.Standing.{every}
 use Rattle.standing.proofs.Every.{every-none, every_more, every-fails}
 use Rattle.standing.proofs.check.from_kept.Invariants.{each}

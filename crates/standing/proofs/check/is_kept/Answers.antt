@@ -1,5 +1,4 @@
 -- `is_kept` meets its contract. Assumes nothing.
-use borrow.Author.Rules.{rules}
 use Rattle.standing.proofs.Singles.{kept-first, kept_second, kept-longest, kept-is}
 use Rattle.standing.proofs.check.is_kept.Goals as goal
 

@@ -1,15 +1,13 @@
 -- `over_kept` meets its contract. Assumes nothing.
 use mathlib.Core.Path.{◌≡◌, refl, sym, subst, ◌∙◌}
-use mathlib.Core.Bool.{Bool, true}
+use mathlib.Core.Bool.{true}
 use mathlib.Core.List.{List}
-use Prim.Native.Nat.{ℕ, ◌+◌, ◌*◌, ◌-◌, ◌≤◌}
+use Prim.Native.Nat.{ℕ, ◌+◌, ◌*◌}
 use native.Mathlib.Omega.{arith}
-use borrow.Author.Rules.{rules}
-use borrow.Author.Tests.{not-true, not-false}
 use Rattle.meaning.specs.Limits.{most_events}
 use Rattle.problem.specs.Arcs.{at}
 use Rattle.distances.specs.Adding.{no_longer, and_then}
-use Rattle.distances.specs.Numbers.{distance, table_at}
+use Rattle.distances.specs.Numbers.{distance}
 use Rattle.standing.specs.Standing.{every}
 use Rattle.standing.proofs.Every.{every-none, every_more, every-fails}
 use Rattle.standing.proofs.check.over_kept.Invariants.{each}
@@ -32,13 +30,12 @@ returns-then-not-is_kept c =
     (c.is_kept.ensures ∙ each-is c.args.s.now c.args.u c.args.w c.loop-v.v _ c.loop-v.invariant.1) c.if-not-is_kept.true)
 
 pub loop-v-preserved : goal.loop-v-preserved
-loop-v-preserved c =
-    (
-      omega arith,
-      c.loop-v.invariant.1,
-      every_more (each c.args.s.now c.args.u c.args.w) c.loop-v.v c.loop-v.invariant.2
-          (c.is_kept.ensures ∙ each-is c.args.s.now c.args.u c.args.w c.loop-v.v _ c.loop-v.invariant.1) c.if-not-is_kept.false,
-    )
+loop-v-preserved c = (
+  omega arith,
+  c.loop-v.invariant.1,
+  every_more (each c.args.s.now c.args.u c.args.w) c.loop-v.v c.loop-v.invariant.2
+      (c.is_kept.ensures ∙ each-is c.args.s.now c.args.u c.args.w c.loop-v.v _ c.loop-v.invariant.1) c.if-not-is_kept.false,
+)
 
 pub returns : goal.returns
 returns c =

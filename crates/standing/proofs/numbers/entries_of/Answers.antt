@@ -1,18 +1,13 @@
 -- `entries_of` meets its contract. Assumes nothing.
-use mathlib.Core.Path.{◌≡◌, refl, ◌∙◌}
-use mathlib.Core.List.{List}
-use Prim.Native.Nat.{ℕ, ◌*◌, ◌-◌, ◌<◌, ◌≤◌}
+use mathlib.Core.Path.{refl, ◌∙◌}
+use Prim.Native.Nat.{◌*◌}
 use native.Mathlib.Omega.{arith}
-use borrow.Author.Rules.{rules}
 use mir.Syntax.{w32}
 use mir.Facts.{to_z-of_z}
-use lib.IntN.{ℤ, pos}
-use lib.ListN.{length, get_or, length-set}
+use lib.IntN.{pos}
+use lib.ListN.{length-set}
 use Rattle.laws.proofs.Lists.{front-more}
 use Rattle.meaning.specs.Limits.{most_events}
-use Rattle.problem.specs.Arcs.{at}
-use Rattle.distances.specs.Numbers.{distance}
-use Rattle.standing.specs.Entries.{entry_of}
 use Rattle.standing.proofs.Listed.{list-is}
 use Rattle.standing.proofs.numbers.entries_of.Invariants.{entry}
 use Rattle.standing.proofs.numbers.entries_of.Goals as goal
@@ -21,14 +16,13 @@ pub loop-k-init : goal.loop-k-init
 loop-k-init c = (omega arith, refl, λ i l. absurd (omega arith))
 
 pub loop-k-preserved : goal.loop-k-preserved
-loop-k-preserved c =
-    (
-      omega arith,
-      simp length-set c.loop-k.invariant.1,
-      front-more (pos 0) (entry c.args.t1) c.loop-k.entries c.loop-k.k _ c.loop-k.invariant.2 (omega arith)
-          (to_z-of_z {w = w32} {z = c.entry_of.result} (record { sfits = c.entry_of.type_inv }) ∙ c.entry_of.ensures),
-    )
+loop-k-preserved c = (
+  omega arith,
+  simp length-set c.loop-k.invariant.1,
+  front-more (pos 0) (entry c.args.numbers) c.loop-k.entries c.loop-k.k _ c.loop-k.invariant.2 (omega arith)
+      (to_z-of_z {w = w32} {z = c.entry_of.result} (record { sfits = c.entry_of.type_inv }) ∙ c.entry_of.ensures),
+)
 
 pub returns : goal.returns
 returns c =
-    list-is (most_events * most_events) (entry c.args.t1) (pos 0) c.loop-k.entries c.loop-k.invariant.1 (λ i m. c.loop-k.invariant.2 i (omega arith))
+    list-is (most_events * most_events) (entry c.args.numbers) (pos 0) c.loop-k.entries c.loop-k.invariant.1 (λ i m. c.loop-k.invariant.2 i (omega arith))

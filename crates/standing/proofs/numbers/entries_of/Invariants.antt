@@ -1,19 +1,13 @@
 -- `entries_of` meets its contract. Assumes nothing.
-use mathlib.Core.Path.{◌≡◌, refl, ◌∙◌}
+use mathlib.Core.Path.{◌≡◌}
 use mathlib.Core.List.{List}
 use Prim.Native.Nat.{ℕ, ◌*◌, ◌-◌, ◌<◌, ◌≤◌}
-use native.Mathlib.Omega.{arith}
-use borrow.Author.Rules.{rules}
-use mir.Syntax.{w32}
-use mir.Facts.{to_z-of_z}
 use lib.IntN.{ℤ, pos}
-use lib.ListN.{length, get_or, length-set}
-use Rattle.laws.proofs.Lists.{front-more}
+use lib.ListN.{length, get_or}
 use Rattle.meaning.specs.Limits.{most_events}
 use Rattle.problem.specs.Arcs.{at}
 use Rattle.distances.specs.Numbers.{distance}
 use Rattle.standing.specs.Entries.{entry_of}
-use Rattle.standing.proofs.Listed.{list-is}
 use Rattle.standing.proofs.numbers.entries_of.Given as goal
 
 abbrev pub entry : List ℕ → ℕ → ℤ

@@ -2,7 +2,6 @@
 use mathlib.Core.Path.{◌∙◌}
 use mir.Syntax.{w32}
 use mir.Facts.{to_z-of_z}
-use borrow.Author.Rules.{rules}
 use Rattle.standing.proofs.Singles.{entry-none, entry-is}
 use Rattle.standing.proofs.numbers.entry_of.Goals as goal
 

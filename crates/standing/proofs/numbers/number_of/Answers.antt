@@ -3,7 +3,6 @@ use mathlib.Core.Path.{◌∙◌}
 use Prim.Native.Nat.{◌≤◌}
 use native.Mathlib.Omega.{arith}
 use mir.Facts.{to_z-of_z}
-use borrow.Author.Rules.{rules}
 use lib.IntN.{nat_abs}
 use Rattle.laws.proofs.Integers.{lifts-by}
 use Rattle.problem.specs.Arcs.{farthest}
@@ -25,11 +24,11 @@ returns-then-z-gt-FARTHEST c =
 pub lifted-requires : goal.lifted-requires
 lifted-requires c =
     let left : nat_abs c.args.z ≤ farthest = (near-zero c.args.z (simp (to_z-of_z c.ranges.z) at c.if-z.false) (simp (to_z-of_z c.ranges.z) at c.if-z-gt-FARTHEST.false)) in
-        let l = lifts-by middle c.args.z (omega (arith, left)) in
+    let l = lifts-by middle c.args.z (omega (arith, left)) in
     rw (to_z-of_z c.ranges.z) (omega arith, (l.b, (l.is, omega (arith, l.small))))
 
 pub returns : goal.returns
 returns c =
     let left : nat_abs c.args.z ≤ farthest = (near-zero c.args.z (simp (to_z-of_z c.ranges.z) at c.if-z.false) (simp (to_z-of_z c.ranges.z) at c.if-z-gt-FARTHEST.false)) in
-        (rw (to_z-of_z c.ranges.z) at c.lifted.ensures)
+    (rw (to_z-of_z c.ranges.z) at c.lifted.ensures)
     ∙ number_is c.args.z (simp (to_z-of_z c.ranges.z) at c.if-z-ge-NO_ENTRY.false) (left)

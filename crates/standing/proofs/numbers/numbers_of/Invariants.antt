@@ -1,18 +1,13 @@
 -- `numbers_of` meets its contract. Assumes nothing.
-use mathlib.Core.Path.{◌≡◌, refl, ap, ◌∙◌}
+use mathlib.Core.Path.{◌≡◌}
 use mathlib.Core.List.{List}
 use Prim.Native.Nat.{ℕ, ◌*◌, ◌-◌, ◌<◌, ◌≤◌}
-use native.Mathlib.Omega.{arith}
-use borrow.Author.Rules.{rules}
-use lib.IntN.{ℤ, pos}
-use lib.ListN.{length, get_or, length-set}
-use Rattle.laws.proofs.Lists.{front-more}
+use lib.IntN.{ℤ}
+use lib.ListN.{length, get_or}
 use Rattle.meaning.specs.Limits.{most_events}
 use Rattle.problem.specs.Arcs.{at}
-use Rattle.lent.proofs.Signed.{element}
 use Rattle.standing.specs.Entries.{no_entry, said}
 use Rattle.standing.specs.Numbers.{number_of}
-use Rattle.standing.proofs.Listed.{any-default}
 use Rattle.standing.proofs.numbers.numbers_of.Given as goal
 
 abbrev pub number : List ℤ → ℕ → ℕ

@@ -1,0 +1,25 @@
+-- `planner::found` meets its contract: the place holds a whole selection. Assumes nothing.
+use mathlib.Core.Path.{◌≡◌, sym, ap, ◌∙◌, subst}
+use mathlib.Core.Bool.{true}
+use mathlib.Core.List.{◌++◌}
+use Prim.Native.Nat.{ℕ}
+use lib.ListN.{take, drop}
+use Rattle.meaning.specs.declared.Answer.TheVariants.{Plan}
+use Rattle.meaning.specs.Plain.{chosen}
+use Rattle.meaning.specs.Decision.{sound, latest_of}
+use Rattle.problem.specs.Laid.{clauses_in}
+use Rattle.search.specs.Standing.{Inside}
+use borrow.Author.Rules.{rules}
+use Rattle.planner.proofs.found.Goals as goal
+
+pub put_day-requires : goal.put_day-requires
+put_day-requires c =
+    (c.requires.0, subst (Inside c.args.p c.args.s.picks) c.requires.2 c.requires.1, c.requires.3, subst (λ (d : ℕ). sound (chosen (clauses_in c.args.p) (take d c.args.s.picks)) ≡ true) c.requires.2 c.requires.5)
+
+pub returns : goal.returns
+returns c =
+    record {
+      says = ap (Plan c.args.s.visits) c.rank_of.ensures;
+      day = c.put_day.ensures ∙ ap (λ (d : ℕ). latest_of c.args.p.n (chosen (clauses_in c.args.p) (take d c.args.s.picks)) ++ drop c.args.p.n c.args.timetable.now) (sym c.requires.2);
+      choice = c.put_picks.ensures ∙ ap (λ (d : ℕ). take c.args.s.k c.args.s.picks ++ drop d c.args.picks.now) c.requires.2;
+    }

@@ -1,4 +1,5 @@
 -- What is left by how the run of the search ended. Assumes nothing.
+use mathlib.Core.Logic.{◌⊎◌, ⊎_elim}
 use mathlib.Core.Path.{◌≡◌, sym, ap, ◌∙◌, subst}
 use mathlib.Core.Bool.{true}
 use mathlib.Core.List.{List, [], ◌∷◌}
@@ -31,11 +32,9 @@ use Rattle.planner.specs.Call.{Answers, Cleared, Closes, Plans}
 use Rattle.planner.proofs.Answering.{shows-stopped, shows-plan, shows-none}
 
 -- a turn that is neither a plan nor the end
-pub halted : (p : Problem) (a : ℕ) (o : Outcome) (t : Turn) (s : Place) (reasons : List ℕ) → OneOf (0 ∷ 3 ∷ []) (tag_of the_type t) → Ends p a o t s reasons → Halted p a o s
-halted p a o On s reasons k h = absurd h
-halted p a o Plan s reasons k h = absurd (miss (0 ∷ 3 ∷ []) 1 tt k)
-halted p a o Closed s reasons k h = absurd (miss (0 ∷ 3 ∷ []) 2 tt k)
-halted p a o Stop s reasons k h = h
+pub halted : (p : Problem) (a : ℕ) (o : Outcome) (t : Turn) (s : Place) (reasons : List ℕ) → (t ≡ On) ⊎ (t ≡ Stop) → Ends p a o t s reasons → Halted p a o s
+halted p a o t s reasons k h =
+    ⊎_elim (λ (e : t ≡ On). absurd (subst (λ (x : Turn). Ends p a o x s reasons) e h)) (λ (e : t ≡ Stop). subst (λ (x : Turn). Ends p a o x s reasons) e h) k
 
 -- a turn that is the end, and one that is a plan
 pub ended : (p : Problem) (a : ℕ) (o : Outcome) (t : Turn) (s : Place) (reasons : List ℕ) → t ≡ Closed → Ends p a o t s reasons → Ended p a o s reasons

@@ -1,6 +1,7 @@
 // The shortest distance between every pair of events, or none, under the facts so far (02, A8; 002), in naturals and in a lent slice: the
 // table from place `base` on has its entry [u][v] at base + u * w + v, a distance z as z + 2,300,024.
 #![tactic(auto)]
+
 ghost use Rattle.std.specs.Prelude.{◌≡◌, true, List, ◌∷◌, ℕ, ◌+◌, ◌-◌, ◌*◌, ◌<◌, ◌≤◌, max, leb, length, take};
 ghost use Rattle.meaning.specs.Limits.{most_events};
 ghost use Rattle.meaning.specs.Problem.{Alternative};
@@ -25,6 +26,7 @@ const TURN: u32 = 2400025;
 const BLOCKED: u32 = 2147483648;
 
 // What the way to a fact's start, of number p, and the fact, of bound b, add.
+#[tactic(auto, unfolding(crate::specs::Numbers::shift))]
 fn shift_of(p: u32, b: u32) -> u32
     requires { b < 2 * bias }
     ensures { (result ≡ shift p b) × (result ≤ blocked) }
@@ -33,6 +35,7 @@ fn shift_of(p: u32, b: u32) -> u32
 }
 
 // A number lowered by the way that adds t to e.
+#[tactic(auto, unfolding(crate::specs::Numbers::lowered))]
 fn lower(o: u32, t: u32, e: u32) -> u32
     requires { t ≤ blocked }
     ensures { result ≡ lowered o t e }

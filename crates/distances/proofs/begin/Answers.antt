@@ -1,6 +1,6 @@
 -- `begin` meets its contract. Assumes nothing.
 use mathlib.Core.Path.{◌≡◌, sym, subst}
-use Prim.Native.Nat.{ℕ, ◌+◌, ◌*◌, ◌-◌, ◌≤◌}
+use Prim.Native.Nat.{ℕ, ◌+◌, ◌*◌, ◌≤◌}
 use native.Mathlib.Nat.{zero-mul}
 use native.Mathlib.Omega.{arith}
 use lib.ListN.{length, set}
@@ -45,7 +45,7 @@ overflow_add-row c =
 pub loop-u-preserved : goal.loop-u-preserved
 loop-u-preserved c =
     let table-in : c.args.base + c.args.n * c.args.w ≤ length c.blank.new.s = (omega (arith, c.blank.ensures.long)) in
-        let q : c.loop-u.row ≡ c.loop-u.u * c.args.w = c.loop-u.invariant.1.0 in (
+    let q : c.loop-u.row ≡ c.loop-u.u * c.args.w = c.loop-u.invariant.1.0 in (
       omega arith,
       (
         row_next c.loop-u.row c.loop-u.u c.args.w q,

@@ -1,12 +1,7 @@
 -- `begin` meets its contract. Assumes nothing.
-use mathlib.Core.Path.{◌≡◌, sym, subst}
-use Prim.Native.Nat.{ℕ, ◌+◌, ◌*◌, ◌-◌, ◌≤◌}
-use native.Mathlib.Nat.{zero-mul}
-use native.Mathlib.Omega.{arith}
-use lib.ListN.{length, set}
-use Rattle.distances.specs.Numbers.{middle}
-use Rattle.distances.proofs.Beginning.{Started, started_none, started-more, begun}
-use Rattle.distances.proofs.Tables.{row-past, row_next}
+use mathlib.Core.Path.{◌≡◌}
+use Prim.Native.Nat.{◌*◌, ◌-◌, ◌≤◌}
+use Rattle.distances.proofs.Beginning.{Started}
 use Rattle.distances.proofs.begin.Given as goal
 
 abbrev pub invariant-loop-u : goal.invariant-loop-u

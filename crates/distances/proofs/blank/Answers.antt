@@ -1,9 +1,6 @@
 -- `blank` meets its contract. Assumes nothing.
-use Prim.Native.Nat.{◌-◌, ◌≤◌}
 use mathlib.Core.Path.{◌≡◌}
 use native.Mathlib.Omega.{arith}
-use borrow.Author.Rules.{rules}
-use Rattle.distances.specs.Rows.{Blanked}
 use Rattle.distances.proofs.Beginning.{blank_none, blank-more}
 use Rattle.distances.proofs.blank.Goals as goal
 

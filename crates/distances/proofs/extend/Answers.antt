@@ -1,13 +1,12 @@
 -- `extend` meets its contract. Assumes nothing.
 use mathlib.Core.Path.{◌≡◌, sym, ap, ◌∙◌}
-use Prim.Native.Nat.{ℕ, ◌+◌, ◌*◌, ◌-◌, ◌<◌, ◌≤◌}
+use Prim.Native.Nat.{ℕ, ◌+◌, ◌*◌, ◌<◌, ◌≤◌}
 use native.Mathlib.Nat.{zero-mul}
 use native.Mathlib.Omega.{arith}
-use borrow.Author.Rules.{rules}
 use Rattle.problem.specs.Arcs.{at}
 use Rattle.distances.specs.Numbers.{shift}
 use Rattle.distances.proofs.Numbers.{place}
-use Rattle.distances.proofs.Tables.{Extending, extending-none, extending-all, extending-more, clear-own, clear-through, row-past, row_next}
+use Rattle.distances.proofs.Tables.{extending-none, extending-all, extending-more, clear-own, clear-through, row-past, row_next}
 use Rattle.distances.proofs.Meaning.{extended-holds}
 use Rattle.distances.proofs.extend.Goals as goal
 
@@ -74,7 +73,7 @@ pub lower_row-requires : goal.lower_row-requires
 lower_row-requires c =
     let row_in : c.loop-u.row + c.args.w ≤ c.args.n * c.args.w = (omega (arith, row-past c.args.w c.loop-u.u c.args.n (omega arith), c.loop-u.invariant.1.0)) in
     let end-in : c.args.x * c.args.w + c.args.w ≤ c.args.n * c.args.w = (row-past c.args.w c.args.x c.args.n (omega arith)) in
-        let own = clear-own _ _ _ _ _ _ _ _ c.requires.2 c.requires.3 c.requires.4 c.requires.7 c.loop-u.u (omega arith) in
+    let own = clear-own _ _ _ _ _ _ _ _ c.requires.2 c.requires.3 c.requires.4 c.requires.7 c.loop-u.u (omega arith) in
     let through = clear-through _ _ _ _ _ _ _ _ c.requires.2 c.requires.3 c.requires.4 c.requires.7 c.loop-u.u (omega arith) in (
       omega (arith, row_in),
       omega (arith, row_in),

@@ -1,14 +1,7 @@
 -- `extend` meets its contract. Assumes nothing.
-use mathlib.Core.Path.{◌≡◌, sym, ap, ◌∙◌}
-use Prim.Native.Nat.{ℕ, ◌+◌, ◌*◌, ◌-◌, ◌<◌, ◌≤◌}
-use native.Mathlib.Nat.{zero-mul}
-use native.Mathlib.Omega.{arith}
-use borrow.Author.Rules.{rules}
-use Rattle.problem.specs.Arcs.{at}
-use Rattle.distances.specs.Numbers.{shift}
-use Rattle.distances.proofs.Numbers.{place}
-use Rattle.distances.proofs.Tables.{Extending, extending-none, extending-all, extending-more, clear-own, clear-through, row-past, row_next}
-use Rattle.distances.proofs.Meaning.{extended-holds}
+use mathlib.Core.Path.{◌≡◌}
+use Prim.Native.Nat.{◌*◌, ◌-◌, ◌≤◌}
+use Rattle.distances.proofs.Tables.{Extending}
 use Rattle.distances.proofs.extend.Given as goal
 
 abbrev pub invariant-loop-u : goal.invariant-loop-u

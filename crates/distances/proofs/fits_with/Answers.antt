@@ -4,7 +4,6 @@ use mathlib.Core.Bool.{true}
 use lib.Dec.{leb}
 use Prim.Native.Nat.{◌+◌, ◌*◌, ◌<◌}
 use native.Mathlib.Omega.{arith}
-use borrow.Author.Rules.{rules}
 use borrow.Author.Tests.{le-leb}
 use Rattle.problem.specs.Arcs.{at}
 use Rattle.distances.specs.Numbers.{turn}

@@ -1,10 +1,8 @@
 -- `latest` meets its contract. Assumes nothing.
-use mathlib.Core.Path.{◌≡◌, refl}
-use Prim.Native.Nat.{ℕ, ◌-◌, ◌<◌, ◌≤◌}
+use mathlib.Core.Path.{refl}
+use Prim.Native.Nat.{ℕ}
 use native.Mathlib.Omega.{arith}
-use borrow.Author.Rules.{rules}
-use lib.ListN.{length, length-set}
-use Rattle.problem.specs.Arcs.{at}
+use lib.ListN.{length-set}
 use Rattle.meaning.proofs.Settling.{zero-at}
 use Rattle.distances.specs.Numbers.{minutes_of, middle}
 use Rattle.meaning.specs.Limits.{most_events}

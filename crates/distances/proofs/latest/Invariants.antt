@@ -1,16 +1,10 @@
 -- `latest` meets its contract. Assumes nothing.
-use mathlib.Core.Path.{◌≡◌, refl}
+use mathlib.Core.Path.{◌≡◌}
 use Prim.Native.Nat.{ℕ, ◌-◌, ◌<◌, ◌≤◌}
-use native.Mathlib.Omega.{arith}
-use borrow.Author.Rules.{rules}
-use lib.ListN.{length, length-set}
+use lib.ListN.{length}
 use Rattle.problem.specs.Arcs.{at}
-use Rattle.meaning.proofs.Settling.{zero-at}
 use Rattle.distances.specs.Numbers.{minutes_of, middle}
 use Rattle.meaning.specs.Limits.{most_events}
-use Rattle.laws.proofs.Lists.{front-more}
-use Rattle.distances.proofs.Rows.{small-more}
-use Rattle.distances.proofs.Minutes.{minutes-least, minutes-small}
 use Rattle.distances.proofs.latest.Given as goal
 
 abbrev pub invariant-loop-v : goal.invariant-loop-v

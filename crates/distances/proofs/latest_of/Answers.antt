@@ -1,9 +1,8 @@
 -- `latest_of` meets its contract. Assumes nothing.
 use mathlib.Core.Path.{◌≡◌, refl, sym}
-use Prim.Native.Nat.{◌+◌, ◌*◌, ◌-◌, ◌≤◌}
+use Prim.Native.Nat.{◌+◌, ◌*◌, ◌≤◌}
 use native.Mathlib.Nat.{zero-mul}
 use native.Mathlib.Omega.{arith}
-use borrow.Author.Rules.{rules}
 use Rattle.distances.specs.Numbers.{minutes_of}
 use Rattle.distances.proofs.Tables.{row-past, row_next}
 use Rattle.distances.proofs.Minutes.{minutes-more}

@@ -1,12 +1,7 @@
 -- `latest_of` meets its contract. Assumes nothing.
-use mathlib.Core.Path.{◌≡◌, refl, sym}
-use Prim.Native.Nat.{◌+◌, ◌*◌, ◌-◌, ◌≤◌}
-use native.Mathlib.Nat.{zero-mul}
-use native.Mathlib.Omega.{arith}
-use borrow.Author.Rules.{rules}
+use mathlib.Core.Path.{◌≡◌}
+use Prim.Native.Nat.{◌*◌, ◌-◌, ◌≤◌}
 use Rattle.distances.specs.Numbers.{minutes_of}
-use Rattle.distances.proofs.Tables.{row-past, row_next}
-use Rattle.distances.proofs.Minutes.{minutes-more}
 use Rattle.distances.proofs.latest_of.Given as goal
 
 abbrev pub invariant-loop-u : goal.invariant-loop-u

@@ -1,11 +1,6 @@
 -- `lower_row` meets its contract. Assumes nothing.
-use mathlib.Core.Path.{◌≡◌, ◌∙◌, ap₂}
-use Prim.Native.Nat.{ℕ, ◌-◌, ◌≤◌}
-use native.Mathlib.Omega.{arith}
-use borrow.Author.Rules.{rules}
-use Rattle.distances.specs.Numbers.{lowered}
+use Prim.Native.Nat.{◌-◌, ◌≤◌}
 use Rattle.distances.specs.Rows.{RowLowered}
-use Rattle.distances.proofs.Rows.{row-none, row_read, row_more}
 use Rattle.distances.proofs.lower_row.Given as goal
 
 abbrev pub invariant-loop-v : goal.invariant-loop-v

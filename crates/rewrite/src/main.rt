@@ -7,7 +7,6 @@ ghost use Rattle.rewrite.specs.Says.{rewriting};
 
 use dialogue::put;
 use exchange::put_script_refused;
-use libc::{STDIN_FILENO, STDOUT_FILENO};
 use script::{BYTES, LONGEST_TEXT, Written};
 
 // Puts what is printed for a text at the front of `out`, and answers how long it is.
@@ -36,8 +35,8 @@ fn rewrite(text: &[u8], out: &mut [u8]) -> usize
 
 fn main() {
     let mut text = [0u8; BYTES + 1];
-    let got = io::read_full(STDIN_FILENO, &mut text);
+    let got = io::read_full(0, &mut text);
     let mut out = [0u8; LONGEST_TEXT];
     let length = rewrite(&text[..got], &mut out);
-    io::write_all(STDOUT_FILENO, &out[..length]);
+    io::write_all(1, &out[..length]);
 }

@@ -7,7 +7,6 @@ ghost use Rattle.solve.specs.Says.{of_answer, says, said};
 
 use dialogue::put;
 use exchange::put_script_refused;
-use libc::{STDIN_FILENO, STDOUT_FILENO};
 use meaning::Answer;
 use problem::{CLAUSES, EVENTS};
 use script::BYTES;
@@ -100,11 +99,11 @@ fn put_saying(line: &mut [u8], saying: Saying) -> usize
 
 fn main() {
     let mut text = [0u8; BYTES + 1];
-    let got = io::read_full(STDIN_FILENO, &mut text);
+    let got = io::read_full(0, &mut text);
     let mut line = [0u8; 64];
     let to = put_saying(&mut line, solution(&text[..got]));
     let end = put(&mut line, to, b"\n");
     if end <= line.len() {
-        io::write_all(STDOUT_FILENO, &line[..end]);
+        io::write_all(1, &line[..end]);
     }
 }

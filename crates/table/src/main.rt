@@ -4,7 +4,10 @@ ghost use Rattle.std.specs.Prelude.{◌+◌, ◌≤◌, ◌<◌, length};
 
 mod operations;
 
-use libc::{STDIN_FILENO, STDOUT_FILENO};
+use std::io::{Read, Stdin};
+
+// Where replies are written.
+const STANDARD_OUTPUT: i32 = 1;
 
 // The most bytes that one read asks for.
 const BLOCK: usize = 65536;
@@ -61,13 +64,12 @@ fn end_last(text: &mut [u8], at: usize, too_long: bool) -> usize
 }
 
 // Reads more of the input into text from `at` on. A last line may end with the input instead of a line feed, which is then put there.
-fn read_more(text: &mut [u8], at: usize, too_long: bool) -> Input
+fn read_more(mut input: Stdin, text: &mut [u8], at: usize, too_long: bool) -> Input
     requires { at ≤ length text.old }
     ensures { at + result.bytes ≤ length text.old }
 {
     let to = at + lesser(text.len() - at, BLOCK);
-    let got = libc::read(STDIN_FILENO, &mut text[at..to]);
-    let bytes = io::count(got, &text[at..to]);
+    let bytes = input.read(&mut text[at..to]).unwrap_or(0);
     if 0 < bytes {
         return Input {
             bytes,
@@ -134,7 +136,7 @@ fn answer(
 // Writes the first so many bytes of a reply at once.
 fn write_out(reply: &[u8], bytes: usize) {
     if bytes <= reply.len() {
-        io::write_all(STDOUT_FILENO, &reply[..bytes]);
+        io::write_all(STANDARD_OUTPUT, &reply[..bytes]);
     }
 }
 
@@ -239,6 +241,7 @@ fn keep(text: &mut [u8], start: usize, end: usize, too_long: bool, ended: bool) 
 
 // Reads once, answers the lines that have ended, and keeps the rest.
 fn take_turn(
+    input: Stdin,
     text: &mut [u8],
     kept: Kept,
     reply: &mut [u8],
@@ -253,8 +256,8 @@ fn take_turn(
 {
     let at = kept.bytes;
     let too_long = kept.too_long;
-    let input = read_more(text, at, too_long);
-    let end = at + input.bytes;
+    let more = read_more(input, text, at, too_long);
+    let end = at + more.bytes;
     let rest = serve_lines(
         &text[..end],
         at,
@@ -266,7 +269,7 @@ fn take_turn(
         picks,
         reasons,
     );
-    keep(text, rest.start, end, rest.too_long, input.ended)
+    keep(text, rest.start, end, rest.too_long, more.ended)
 }
 
 // How many turns are left after one. A proved loop has to end, and nothing says that the input does: so the turns are counted down,
@@ -280,6 +283,7 @@ fn turns_left(turns: u64, ended: bool) -> u64
 
 // Talks until the input ends.
 fn talk(
+    input: Stdin,
     text: &mut [u8],
     reply: &mut [u8],
     triples: &mut [i32],
@@ -296,7 +300,7 @@ fn talk(
     let mut turns = u64::MAX;
     while turns > 0 {
         let next = take_turn(
-            text, kept, reply, triples, counts, timetable, picks, reasons,
+            input, text, kept, reply, triples, counts, timetable, picks, reasons,
         );
         kept = next;
         turns = turns_left(turns, kept.ended);
@@ -305,7 +309,7 @@ fn talk(
 
 // The lengths of what is lent to a request are the limits of its counts; the reply has room for the longest, that of a plan with
 // all of it lent.
-fn main() {
+fn main(rt: HostRuntime) {
     let mut text = [0u8; 1048577];
     let mut reply = [0u8; 266240];
     let mut triples = [0i32; 256];
@@ -314,6 +318,7 @@ fn main() {
     let mut picks = [0u8; 64];
     let mut reasons = [0u8; 65536];
     talk(
+        rt.stdin(),
         &mut text,
         &mut reply,
         &mut triples,

@@ -13,4 +13,7 @@ slice_bounds-text-end c =
     subst (λ (n : ℕ). c.put_signed-end.result ≤ n) (sym long) (rw c.put_signed-end.ensures.value (to-within _ 0 _ zero-le))
 
 pub slice_bounds-write_all-end : goal.slice_bounds-write_all-end
-slice_bounds-write_all-end c = simp length-take (omega (arith, slice_bounds-text-end c))
+slice_bounds-write_all-end c =
+    let long : length c.put_signed-end.new.out ≡ 11 = search rules in
+    let within : c.put_signed-end.result ≤ length c.put_signed-end.new.out = subst (λ (n : ℕ). c.put_signed-end.result ≤ n) (sym long) (rw c.put_signed-end.ensures.value (to-within _ 0 _ zero-le)) in
+    simp length-take (omega arith)

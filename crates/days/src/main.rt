@@ -1,6 +1,7 @@
 // Prints the worked days of 01, as A4, A6 and A7 amend them, one to a line: the answer, and the lent timetable, picks and reasons as they are left. All of
 // that is filled with 7s before each call, so that what was not settled would show.
 #![tactic(auto)]
+
 ghost use Rattle.std.specs.Prelude.{◌≡◌, ◌*◌, ◌≤◌, length};
 ghost use Rattle.meaning.specs.Limits.{most_events};
 

@@ -1,6 +1,7 @@
 // Prints worked days that follow the slider (02, A8), one to a line: what was asked, the number that was answered, 0 or the refusal's, and the day or the
 // timetable as it is left. Of a day the first n rows of n entries are shown, each row led by a bar, an entry that is none as a dash.
 #![tactic(auto)]
+
 ghost use Rattle.std.specs.Prelude.{◌≡◌, ◌≤◌, ◌<◌, length};
 
 use problem::EVENTS;

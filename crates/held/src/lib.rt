@@ -1,5 +1,6 @@
 // Facts held in a buffer by value, newest first, their tests and their shortest reason.
 #![tactic(auto)]
+
 ghost use Rattle.std.specs.Prelude.{◌≡◌, false, [], ◌∷◌, ◌+◌, ◌≤◌};
 ghost use Rattle.meaning.specs.Limits.{row_bytes};
 ghost use Rattle.meaning.specs.Decision.{sound};

@@ -1,5 +1,6 @@
 // The lamp panel: 01, "Lamps and sliders", its first paragraph.
 #![tactic(auto)]
+
 ghost use Rattle.std.specs.Prelude.{◌≡◌, ◌++◌, map, ◌-◌, ◌≤◌, replicate};
 ghost use Rattle.meaning.specs.Limits.{most_clauses, most_in_clause, most_alternatives};
 ghost use Rattle.meaning.specs.Lamps.{forced, bits, ones, lit, panel_of, dark, panel};

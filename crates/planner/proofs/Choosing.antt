@@ -9,7 +9,7 @@ use lib.ListN.{length, take}
 use Rattle.meaning.specs.Plain.{chosen}
 use Rattle.meaning.specs.Decision.{sound, least, latest_of}
 use Rattle.problem.specs.declared.Problem.{Problem}
-use Rattle.problem.specs.Arcs.{at, arc, Known}
+use Rattle.problem.specs.Arcs.{arc, Known}
 use Rattle.problem.specs.Laid.{arcs, clauses_in, Laid}
 use Rattle.facts.specs.Tests.{places, Tests}
 use Rattle.held.specs.declared.Facts.{Facts}

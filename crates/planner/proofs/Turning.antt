@@ -2,11 +2,9 @@
 use mathlib.Core.Logic.{◌⊎◌, ⊎_elim}
 use mathlib.Core.Path.{◌≡◌, sym, ap, ◌∙◌, subst}
 use mathlib.Core.Bool.{true}
-use mathlib.Core.List.{List, [], ◌∷◌}
+use mathlib.Core.List.{List, []}
 use Prim.Native.Nat.{ℕ, ◌≤◌}
 use native.Mathlib.Omega.{arith}
-use types.Run.{OneOf, miss}
-use denote.Enum.Declared.{tag_of}
 use lib.IntN.{ℤ}
 use lib.ListN.{length, replicate}
 use Rattle.laws.proofs.Tests.{is_true}
@@ -27,7 +25,6 @@ use Rattle.search.specs.declared.Turn.{Turn}
 use Rattle.search.specs.declared.Turn.TheVariants.{On, Plan, Closed, Stop}
 use Rattle.search.specs.Steps.{positions, most_rows, Found, Ended, Stopped as Halted, Ends}
 use Rattle.search.proofs.Ranks.{laid-short}
-use Rattle.search.specs.contracts.Turn.{the_type}
 use Rattle.planner.specs.Call.{Answers, Cleared, Closes, Plans}
 use Rattle.planner.proofs.Answering.{shows-stopped, shows-plan, shows-none}
 

@@ -1,6 +1,7 @@
 // The planner's public operations: `plan`, `read_reasons`, `read_timetable`, `lamps`, `slide`, `read_script`, `write_script`, and on a standing
 // day `fresh_day`, `add_fact`, `add_fact_to` and `read_day`. Each answers every input; none asks anything of its caller.
 #![tactic(auto)]
+
 ghost use Rattle.std.specs.Prelude.{◌≡◌, true, ◌++◌, ℕ, ◌≤◌, length, take, drop};
 ghost use Rattle.meaning.specs.Limits.{most_allowance};
 ghost use Rattle.meaning.specs.declared.Answer.TheVariants.{Stopped};

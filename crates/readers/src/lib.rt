@@ -1,6 +1,7 @@
 // The two readers: 01, "The list of reasons". Each is a witness beside the search and shares no code with it: the one reads a list of
 // reasons down one clause at a time, the other tests a timetable against every clause.
 #![tactic(auto)]
+
 ghost use Rattle.std.specs.Prelude.{◌≡◌, map, ◌+◌, ◌*◌, ◌/◌, ◌<◌, ◌≤◌, length, drop, ◌-ℤ◌};
 ghost use Rattle.std.proofs.Math.IntN.{sub_ℕ};
 ghost use Rattle.std.specs.Int.Signed.{le_z};

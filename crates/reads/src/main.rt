@@ -1,5 +1,6 @@
 // Prints what the two readers say of the worked days' lists and timetables, and of lists and timetables that are wrong in one place, one to a line.
 #![tactic(auto)]
+
 use meaning::Verdict;
 use problem::{EVENTS, ROW};
 

@@ -1,6 +1,7 @@
 // Reads a script from standard input and prints the same problem written anew, its events named e0, e1 and so on; or one line: `refused NUMBER`
 // (20 with its place) or `too long`.
 #![tactic(auto)]
+
 ghost use Rattle.std.specs.Prelude.{◌≡◌, ◌≤◌, length, take};
 ghost use Rattle.script.specs.Text.{longest_text};
 ghost use Rattle.rewrite.specs.Says.{rewriting};

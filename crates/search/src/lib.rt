@@ -1,5 +1,6 @@
 // The quick search as a step over a place, run until it ends.
 #![tactic(auto)]
+
 mod listing;
 mod places;
 mod standing;

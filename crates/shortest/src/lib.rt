@@ -1,6 +1,7 @@
 // The shortest reason of facts that have no timetable, as a cycle row names it (02, A7): of the closed rows of facts with a sum below 0 one with the fewest arcs, and of those the first in dictionary order.
 // It is the best of the first rows from each event. Arcs come in three slices by their numbers, facts as arc numbers.
 #![tactic(auto)]
+
 mod heights;
 mod leading;
 

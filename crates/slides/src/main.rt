@@ -1,5 +1,6 @@
 // Prints the worked cases of sliders, 01's and A2's, and cases at the edges, one to a line, each in both uses.
 #![tactic(auto)]
+
 use slider::{Kind, SliderAnswer, Travel, Use};
 
 // A whole number of 32 bits at its longest: a sign and ten digits.

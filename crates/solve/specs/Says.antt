@@ -1,7 +1,6 @@
 -- What `solve` says of a text, and the line that it prints. Definitions only.
 use Rattle.std.specs.Prelude.{cond, List, ℕ, zero, suc, ◌*◌, ltb, length, take}
 use Rattle.meaning.specs.declared.Answer.{Answer}
-use Rattle.meaning.specs.declared.Answer.TheVariants as Answer
 use Rattle.meaning.specs.Limits.{most_events, most_clauses, most_allowance}
 use Rattle.meaning.specs.Screen.{Input, screen}
 use Rattle.grammar.specs.Grammar.{bytes}

@@ -1,6 +1,7 @@
 // Reads a script from standard input, plans its problem and prints what was found, in one line: `sat`, `unsat`, `unknown`, `refused NUMBER`
 // (20 with its place) or `too long`.
 #![tactic(auto)]
+
 ghost use Rattle.std.specs.Prelude.{◌≡◌};
 ghost use Rattle.dialogue.specs.Written.{written, written_to};
 ghost use Rattle.solve.specs.Says.{of_answer, says, said};

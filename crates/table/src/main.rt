@@ -1,5 +1,6 @@
 // The museum's table: one request a line on standard input, one reply a line on standard output, until the input ends.
 #![tactic(auto)]
+
 ghost use Rattle.std.specs.Prelude.{◌+◌, ◌≤◌, ◌<◌, length};
 
 mod operations;

@@ -1,6 +1,7 @@
 // Positions of clauses taken on the days of facts, tables of distances in a lent slice: the table of a day with a position's facts, and whether
 // a clause is dead under a day.
 #![tactic(auto)]
+
 ghost use Rattle.std.specs.Prelude.{◌≡◌, List, ◌∷◌, ℕ, ◌+◌, ◌-◌, ◌*◌, ◌<◌, ◌≤◌, length};
 ghost use Rattle.meaning.specs.Limits.{most_events, most_alternatives, opposite_from};
 ghost use Rattle.meaning.specs.Problem.{Alternative, opposite};

@@ -1,9 +1,6 @@
 -- `days::put_ahead` meets its contract: the stores stay within the lent slices. Assumes nothing.
-use mathlib.Core.Path.{◌≡◌}
-use Prim.Native.Nat.{◌-◌, ◌≤◌}
 use native.Mathlib.Omega.{arith}
-use lib.ListN.{length, length-set}
-use borrow.Author.Rules.{rules}
+use lib.ListN.{length-set}
 use Rattle.days.proofs.put_ahead.Goals as goal
 
 pub bounds-triples-e-in-loop-e : goal.bounds-triples-e-in-loop-e

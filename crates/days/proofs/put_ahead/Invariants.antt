@@ -1,9 +1,7 @@
 -- `days::put_ahead` meets its contract: the stores stay within the lent slices. Assumes nothing.
 use mathlib.Core.Path.{◌≡◌}
 use Prim.Native.Nat.{◌-◌, ◌≤◌}
-use native.Mathlib.Omega.{arith}
-use lib.ListN.{length, length-set}
-use borrow.Author.Rules.{rules}
+use lib.ListN.{length}
 use Rattle.days.proofs.put_ahead.Given as goal
 
 abbrev pub invariant-loop-e : goal.invariant-loop-e

@@ -2,8 +2,7 @@
 use mathlib.Core.Path.{sym, ◌∙◌}
 use native.Mathlib.Omega.{arith}
 use lib.ListN.{length-take}
-use borrow.Author.Rules.{rules}
 use Rattle.days.proofs.write_front.Goals as goal
 
 pub slice_bounds-write_all-end : goal.slice_bounds-write_all-end
-slice_bounds-write_all-end c =     sym (length-take c.args.bytes c.args.text.now ∙ omega arith)
+slice_bounds-write_all-end c = sym (length-take c.args.bytes c.args.text.now ∙ omega arith)

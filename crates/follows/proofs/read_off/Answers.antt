@@ -1,6 +1,5 @@
 -- `follows::read_off` meets its contract: there are so many elements to lend. Assumes nothing.
 use native.Mathlib.Omega.{arith}
-use borrow.Author.Rules.{rules}
 use lib.ListN.{length-take}
 use Rattle.follows.proofs.read_off.Goals as goal
 

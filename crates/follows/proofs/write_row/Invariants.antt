@@ -1,6 +1,5 @@
 -- `follows::write_row` meets its contract: each entry is read within the row. Assumes nothing.
 use Prim.Native.Nat.{◌-◌, ◌≤◌}
-use borrow.Author.Rules.{rules}
 use lib.ListN.{length}
 use Rattle.follows.proofs.write_row.Given as goal
 

@@ -1,6 +1,5 @@
 -- `follows::write_rows` meets its contract: each row lies within the entries. Assumes nothing.
 use Prim.Native.Nat.{◌-◌, ◌≤◌}
-use borrow.Author.Rules.{rules}
 use Rattle.follows.proofs.write_rows.Given as goal
 
 abbrev pub invariant-loop-u : goal.invariant-loop-u

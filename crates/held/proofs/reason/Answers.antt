@@ -1,10 +1,8 @@
 -- `held::reason` meets its contract: what the buffer holds is lent whole. Assumes nothing.
 use mathlib.Core.Path.{◌≡◌}
-use Prim.Native.Nat.{◌≤◌}
 use native.Mathlib.Omega.{arith}
 use lib.ListN.{length}
 use lib.Seq.{take_all}
-use Rattle.facts.specs.Tests.{places}
 use borrow.Author.Rules.{rules}
 use Rattle.held.proofs.Lending.{whole}
 use Rattle.held.proofs.reason.Goals as goal
@@ -15,4 +13,4 @@ reason-requires c =
     rw (take_all _ _ (whole c.args.f.buffer c.args.f.at (search rules))) (c.requires.2, omega arith, c.requires.0.most, c.requires.3)
 
 pub returns : goal.returns
-returns c =     rw (take_all _ _ (whole c.args.f.buffer c.args.f.at (search rules))) at c.reason.ensures
+returns c = rw (take_all _ _ (whole c.args.f.buffer c.args.f.at (search rules))) at c.reason.ensures

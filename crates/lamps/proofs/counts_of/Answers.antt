@@ -1,13 +1,13 @@
 -- `lamps::counts_of` meets its contract: after k clauses the first k counts are theirs and the rest is 0. Assumes nothing.
 use mathlib.Core.Path.{◌≡◌, refl, ap, ap₂, ◌∙◌}
 use mathlib.Core.List.{List, ◌++◌, map}
-use Prim.Native.Nat.{ℕ, ◌+◌, ◌-◌, ◌<◌, ◌≤◌}
+use Prim.Native.Nat.{ℕ, ◌+◌, ◌-◌, ◌<◌}
 use native.Mathlib.Omega.{arith}
 use native.Mathlib.Numerals.{add-one}
 use lib.Bits.{bit_and}
 use lib.Count
 use lib.Seq.{take_all}
-use lib.ListN.{take, drop, replicate}
+use lib.ListN.{replicate}
 use Rattle.meaning.specs.Limits.{most_clauses}
 use Rattle.meaning.specs.Lamps.{ones, lit}
 use Rattle.problem.specs.Arcs.{at}

@@ -8,11 +8,8 @@ use lib.ListN.{length}
 use borrow.Author.Rules.{rules}
 use Rattle.meaning.specs.Limits.{most_alternatives}
 use Rattle.meaning.specs.Problem.{Alternative}
-use Rattle.meaning.specs.Lamps.{forced}
-use Rattle.problem.specs.Arcs.{at, arc, Known}
-use Rattle.problem.specs.Laid.{arcs, clauses_from}
-use Rattle.facts.specs.Tests.{places}
-use Rattle.held.specs.Held.{held, facts_in}
+use Rattle.problem.specs.Arcs.{at, arc}
+use Rattle.problem.specs.Laid.{arcs}
 use Rattle.problem.proofs.Knowing.{known-none, known_more}
 use Rattle.lamps.proofs.Forced.{forced-none, forced-all, forced-taken, forced-passed}
 use Rattle.lamps.proofs.forced_facts.Goals as goal

@@ -1,24 +1,15 @@
 -- `lamps::forced_facts` meets its contract: after clauses k on, the buffer holds their forced alternatives. Assumes nothing.
-use mathlib.Core.Path.{◌≡◌, sym, ap, ◌∙◌}
-use mathlib.Core.List.{List, ◌∷◌, map}
-use Prim.Native.Nat.{◌+◌, ◌-◌, ◌*◌, ◌<◌, ◌≤◌}
-use native.Mathlib.Omega.{arith}
-use native.Mathlib.Numerals.{add-one}
-use lib.ListN.{length}
-use borrow.Author.Rules.{rules}
-use Rattle.meaning.specs.Limits.{most_alternatives}
-use Rattle.meaning.specs.Problem.{Alternative}
+use mathlib.Core.Path.{◌≡◌}
+use Prim.Native.Nat.{◌+◌, ◌-◌, ◌≤◌}
 use Rattle.meaning.specs.Lamps.{forced}
-use Rattle.problem.specs.Arcs.{at, arc, Known}
+use Rattle.problem.specs.Arcs.{Known}
 use Rattle.problem.specs.Laid.{arcs, clauses_from}
 use Rattle.facts.specs.Tests.{places}
 use Rattle.held.specs.Held.{held, facts_in}
-use Rattle.problem.proofs.Knowing.{known-none, known_more}
-use Rattle.lamps.proofs.Forced.{forced-none, forced-all, forced-taken, forced-passed}
 use Rattle.lamps.proofs.forced_facts.Given as goal
 
 abbrev pub invariant-loop-k : goal.invariant-loop-k
-invariant-loop-k l = 
+invariant-loop-k l =
     (facts_in l.p l.f ≡ forced (clauses_from l.p l.k (l.p.m - l.k))) × Known (arcs l.p) l.p.n (held l.f) × (l.f.at ≤ places) × (places ≤ l.f.at + (l.p.m - l.k)) × (l.k ≤ l.p.m)
 
 abbrev pub decreases-loop-k : goal.decreases-loop-k

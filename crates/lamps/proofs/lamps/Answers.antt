@@ -1,6 +1,5 @@
 -- `lamps::lamps` meets its contract: the panel of the checked problem, or the dark one. Assumes nothing.
 use mathlib.Core.Path.{◌∙◌}
-use borrow.Author.Rules.{rules}
 use Rattle.lamps.proofs.Panels.{panel-refused, panel-accepted}
 use Rattle.lamps.proofs.lamps.Goals as goal
 

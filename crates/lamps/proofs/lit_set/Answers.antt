@@ -1,8 +1,7 @@
 -- `lamps::lit_set` meets its contract: after j alternatives the set is that of the first j lamps. Assumes nothing.
 use mathlib.Core.Path.{◌≡◌, sym, ap, ap₂, ◌∙◌}
-use mathlib.Core.Logic.{⊎_elim}
 use mathlib.Core.List.{List}
-use Prim.Native.Nat.{ℕ, ◌-◌, ◌<◌, ◌≤◌}
+use Prim.Native.Nat.{ℕ, ◌<◌}
 use native.Mathlib.Omega.{arith}
 use Rattle.meaning.specs.Limits.{most_alternatives}
 use Rattle.meaning.specs.Problem.{Alternative}
@@ -18,10 +17,10 @@ pub bounds-starts-m : goal.bounds-starts-m
 bounds-starts-m c = omega (arith, c.requires.0.few)
 
 pub loop-j-init : goal.loop-j-init
-loop-j-init c =     (sym (no-lamps (facts_in c.args.p c.args.f) (arcs c.args.p)), omega arith)
+loop-j-init c = (sym (no-lamps (facts_in c.args.p c.args.f) (arcs c.args.p)), omega arith)
 
 pub tested_with-t-requires : goal.tested_with-t-requires
-tested_with-t-requires c =     (c.requires.0, c.requires.1, c.requires.0.alternative c.loop-j.j c.loop-j-test.true)
+tested_with-t-requires c = (c.requires.0, c.requires.1, c.requires.0.alternative c.loop-j.j c.loop-j-test.true)
 
 pub overflow_cast-set : goal.overflow_cast-set
 overflow_cast-set c = omega (arith, c.requires.0.last)
@@ -41,8 +40,9 @@ loop-j-preserved c =
     let ok = c.tested_with-t.ensures.decides in
     let l : j < most_alternatives = omega (arith, c.requires.0.last) in (
       elim c.if-t.branch [
-          then-t w ↦ w.set-is ∙ lit-more fs g j _ l i.0 (sym w.if-t.true ∙ ok)
-        | else-t w ↦ w.set-is ∙ dark-more fs g j _ i.0 (sym w.if-t.false ∙ ok) ],
+        | then-t w ↦ w.set-is ∙ lit-more fs g j _ l i.0 (sym w.if-t.true ∙ ok)
+        | else-t w ↦ w.set-is ∙ dark-more fs g j _ i.0 (sym w.if-t.false ∙ ok)
+      ],
       omega arith,
     )
 

@@ -1,16 +1,10 @@
 -- `lamps::lit_set` meets its contract: after j alternatives the set is that of the first j lamps. Assumes nothing.
-use mathlib.Core.Path.{◌≡◌, sym, ap, ap₂, ◌∙◌}
-use mathlib.Core.Logic.{⊎_elim}
-use mathlib.Core.List.{List}
-use Prim.Native.Nat.{ℕ, ◌-◌, ◌<◌, ◌≤◌}
-use native.Mathlib.Omega.{arith}
-use Rattle.meaning.specs.Limits.{most_alternatives}
-use Rattle.meaning.specs.Problem.{Alternative}
+use mathlib.Core.Path.{◌≡◌}
+use Prim.Native.Nat.{◌-◌, ◌≤◌}
 use Rattle.meaning.specs.Lamps.{bits, lamps_of}
-use Rattle.problem.specs.Arcs.{at, arcs_from}
+use Rattle.problem.specs.Arcs.{arcs_from}
 use Rattle.problem.specs.Laid.{arcs}
 use Rattle.held.specs.Held.{facts_in}
-use Rattle.lamps.proofs.Lit.{no-lamps, lit-more, dark-more, lamps-are}
 use Rattle.lamps.proofs.lit_set.Given as goal
 
 abbrev pub invariant-loop-j : goal.invariant-loop-j

@@ -3,7 +3,6 @@ use mathlib.Core.Path.{◌≡◌, ap, ◌∙◌}
 use Prim.Native.Nat.{ℕ, ◌+◌, ◌-◌, ◌^◌, ◌≤◌}
 use native.Mathlib.Omega.{arith}
 use lib.Pow.{pow_mono}
-use borrow.Author.Rules.{rules}
 use Rattle.lamps.specs.Masks.{mask}
 use Rattle.lamps.proofs.Sets.{low_bits, mask_is}
 use Rattle.lamps.proofs.mask_of.Goals as goal

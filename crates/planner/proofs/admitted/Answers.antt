@@ -5,7 +5,6 @@ use native.Mathlib.Omega.{arith}
 use native.Mathlib.Nat.{pos_of_ne-zero}
 use Rattle.planner.specs.Call.{call}
 use Rattle.planner.proofs.Refusals.{refused-problem, refused-allowance, refused-times, refused-picks, taken}
-use borrow.Author.Rules.{rules}
 use Rattle.planner.proofs.admitted.Goals as goal
 
 seven : ◌≡◌ {A = ℕ} 7 0 → ⊥

@@ -5,7 +5,6 @@ use native.Mathlib.Omega.{arith}
 use Rattle.meaning.specs.declared.Answer.TheVariants.{None, Unlisted}
 use Rattle.meaning.specs.Plain.{product}
 use Rattle.problem.specs.Laid.{clauses_from}
-use borrow.Author.Rules.{rules}
 use Rattle.planner.proofs.closed.Goals as goal
 
 pub returns-then-rows-reasons : goal.returns-then-rows-reasons

@@ -9,7 +9,6 @@ use Rattle.meaning.specs.Plain.{chosen}
 use Rattle.meaning.specs.Decision.{sound, latest_of}
 use Rattle.problem.specs.Laid.{clauses_in}
 use Rattle.search.specs.Standing.{Inside}
-use borrow.Author.Rules.{rules}
 use Rattle.planner.proofs.found.Goals as goal
 
 pub put_day-requires : goal.put_day-requires

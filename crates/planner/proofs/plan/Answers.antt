@@ -5,7 +5,6 @@ use Rattle.problem.specs.Reads.{given}
 use Rattle.planner.specs.Call.{call}
 use Rattle.planner.proofs.Refusals.{room_of}
 use Rattle.planner.proofs.Calling.{refused-call, cleared, roomy-times, roomy-picks, accepted-call}
-use borrow.Author.Rules.{rules}
 use Rattle.planner.proofs.plan.Goals as goal
 
 pub returns-then-c-ne0 : goal.returns-then-c-ne0

@@ -29,7 +29,7 @@ returns-in-Closed c =
 pub returns-in-Plan : goal.returns-in-Plan
 returns-in-Plan c =
     let long-picks : length c.run-w.result.place.picks ≡ 32 = (search rules) in
-        let g = c.run-w.result.place in
+    let g = c.run-w.result.place in
     answers-found c.args.p c.requires.0 c.args.allowance g c.args.timetable.now c.args.picks.now c.args.reasons.now c.requires.2 c.found.result c.run-w.new.reasons c.fill_bytes.new.s c.found.new.timetable c.found.new.picks (long-picks) c.run-w.ensures.sized c.fill_bytes.ensures (planned c.args.p c.args.allowance _ c.run-w.result.turn g c.run-w.new.reasons c.in-Plan.is c.run-w.ensures.ends) c.found.ensures
 
 pub returns-in-On : goal.returns-in-On

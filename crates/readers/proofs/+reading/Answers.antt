@@ -1,19 +1,16 @@
 -- `readers::reading` meets its contract: what remains of the next clause from row r on gives the same; the clauses left fall at each call. Assumes nothing.
 use mathlib.Core.Path.{◌≡◌, refl, sym, ap, ◌∙◌}
-use Prim.Native.Nat.{ℕ, ◌-◌, ◌<◌}
 use native.Mathlib.Nat.{pos_of_ne-zero}
 use native.Mathlib.Omega.{arith}
 use borrow.Author.Rules.{rules}
-use lib.ListN.{length, drop}
+use lib.ListN.{length}
 use Rattle.meaning.specs.Limits.{row_bytes}
-use Rattle.meaning.specs.Reasons.{read, rows_of}
-use Rattle.problem.specs.Laid.{clauses_from}
-use Rattle.readers.specs.Standing.{facts_from}
+use Rattle.meaning.specs.Reasons.{rows_of}
 use Rattle.readers.specs.Leaves.{kind_of}
 use Rattle.readers.proofs.Rows.{rows-count}
 use Rattle.readers.proofs.Clauses.{clauses-none}
 use Rattle.readers.proofs.Readings.{ring-there, onward-there, dead-there, read-bad, read-ring, read-dead, read-stop}
-use Rattle.readers.proofs.Turns.{Passing, pass-start, pass-end, pass-small, pass-stands, pass-no, pass-row}
+use Rattle.readers.proofs.Turns.{pass-start, pass-end, pass-small, pass-stands, pass-no, pass-row}
 use Rattle.readers.proofs.+reading.Goals as goal
 
 pub cycle_at-requires : goal.cycle_at-requires

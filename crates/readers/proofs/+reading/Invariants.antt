@@ -1,10 +1,6 @@
 -- `readers::reading` meets its contract: what remains of the next clause from row r on gives the same; the clauses left fall at each call. Assumes nothing.
-use mathlib.Core.Path.{◌≡◌, refl, sym, ap, ◌∙◌}
-use Prim.Native.Nat.{ℕ, ◌-◌, ◌<◌}
-use native.Mathlib.Nat.{pos_of_ne-zero}
-use native.Mathlib.Omega.{arith}
-use borrow.Author.Rules.{rules}
-use lib.ListN.{length, drop}
+use Prim.Native.Nat.{◌-◌}
+use lib.ListN.{drop}
 use Rattle.meaning.specs.Limits.{row_bytes}
 use Rattle.meaning.specs.Reasons.{read, rows_of}
 use Rattle.problem.specs.Laid.{clauses_from}

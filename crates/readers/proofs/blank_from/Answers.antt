@@ -1,9 +1,5 @@
 -- `readers::blank_from` meets its contract: the bytes from i on are blank where all from the first place on are. Assumes nothing.
-use mathlib.Core.Path.{◌≡◌, refl, sym, ◌∙◌}
-use Prim.Native.Nat.{◌-◌}
-use borrow.Author.Rules.{rules}
-use lib.ListN.{length, drop}
-use Rattle.meaning.specs.Reasons.{blank}
+use mathlib.Core.Path.{sym, ◌∙◌}
 use Rattle.readers.proofs.Bytes.{blank-not, blank-more, blank_none}
 use Rattle.readers.proofs.blank_from.Goals as goal
 

@@ -1,10 +1,8 @@
 -- `readers::blank_from` meets its contract: the bytes from i on are blank where all from the first place on are. Assumes nothing.
-use mathlib.Core.Path.{◌≡◌, refl, sym, ◌∙◌}
+use mathlib.Core.Path.{◌≡◌}
 use Prim.Native.Nat.{◌-◌}
-use borrow.Author.Rules.{rules}
 use lib.ListN.{length, drop}
 use Rattle.meaning.specs.Reasons.{blank}
-use Rattle.readers.proofs.Bytes.{blank-not, blank-more, blank_none}
 use Rattle.readers.proofs.blank_from.Given as goal
 
 abbrev pub invariant-loop-i : goal.invariant-loop-i

@@ -1,18 +1,12 @@
 -- `readers::dead` meets its contract: what remains of the dead clause from row r on gives the same. Assumes nothing.
-use mathlib.Core.Path.{◌≡◌, sym}
 use Prim.Native.Nat.{◌-◌}
-use native.Mathlib.Omega.{arith}
-use borrow.Author.Rules.{rules}
-use borrow.Author.Tests.{not-true, not-false}
-use lib.ListN.{length, drop}
+use lib.ListN.{drop}
 use Rattle.meaning.specs.Limits.{row_bytes}
 use Rattle.meaning.specs.Reasons.{rows_of}
 use Rattle.problem.specs.Laid.{clauses_from}
 use Rattle.readers.specs.Standing.{facts_from}
 use Rattle.readers.specs.Leaves.{dead_rows}
-use Rattle.readers.proofs.Rows.{rows-count}
-use Rattle.readers.proofs.Readings.{dead-chosen, dead-past}
-use Rattle.readers.proofs.Turns.{Testing, test-start, test-end, test-number, test-decided, test-no, test-there, test-row}
+use Rattle.readers.proofs.Turns.{Testing}
 use Rattle.readers.proofs.dead.Given as goal
 
 abbrev pub invariant-loop-j : goal.invariant-loop-j

@@ -1,16 +1,13 @@
 -- `readers::is_cycle` meets its contract: the walk from the i-th number on closes where the whole one does. Assumes nothing.
 use mathlib.Core.Path.{◌≡◌, sym, ◌∙◌, subst}
-use mathlib.Core.List.{map}
-use Prim.Native.Nat.{ℕ, ◌-◌, ◌*◌, ◌≤◌}
+use Prim.Native.Nat.{ℕ}
 use native.Mathlib.Nat.{pos_of_ne-zero}
 use native.Mathlib.Omega.{arith}
 use borrow.Author.Rules.{rules}
-use borrow.Author.Tests.{not-true, not-false}
-use lib.ListN.{length, drop}
-use Rattle.meaning.specs.Reasons.{loops}
-use Rattle.problem.specs.Arcs.{arc, Arc}
+use lib.ListN.{length}
+use Rattle.problem.specs.Arcs.{Arc}
 use Rattle.problem.specs.Laid.{arcs}
-use Rattle.readers.proofs.Walking.{known-arc, walk_on, loops-on, loops-none, loops-foreign, on-foreign, on-apart, on-more, on-open, on-closed}
+use Rattle.readers.proofs.Walking.{known-arc, loops-on, loops-none, loops-foreign, on-foreign, on-apart, on-more, on-open, on-closed}
 use Rattle.readers.proofs.is_cycle.Goals as goal
 
 pub returns-then-walked-eq0 : goal.returns-then-walked-eq0

@@ -1,16 +1,12 @@
 -- `readers::is_cycle` meets its contract: the walk from the i-th number on closes where the whole one does. Assumes nothing.
-use mathlib.Core.Path.{◌≡◌, sym, ◌∙◌, subst}
+use mathlib.Core.Path.{◌≡◌}
 use mathlib.Core.List.{map}
-use Prim.Native.Nat.{ℕ, ◌-◌, ◌*◌, ◌≤◌}
-use native.Mathlib.Nat.{pos_of_ne-zero}
-use native.Mathlib.Omega.{arith}
-use borrow.Author.Rules.{rules}
-use borrow.Author.Tests.{not-true, not-false}
+use Prim.Native.Nat.{◌-◌, ◌*◌, ◌≤◌}
 use lib.ListN.{length, drop}
 use Rattle.meaning.specs.Reasons.{loops}
-use Rattle.problem.specs.Arcs.{arc, Arc}
+use Rattle.problem.specs.Arcs.{arc}
 use Rattle.problem.specs.Laid.{arcs}
-use Rattle.readers.proofs.Walking.{known-arc, walk_on, loops-on, loops-none, loops-foreign, on-foreign, on-apart, on-more, on-open, on-closed}
+use Rattle.readers.proofs.Walking.{walk_on}
 use Rattle.readers.proofs.is_cycle.Given as goal
 
 abbrev pub invariant-loop-i : goal.invariant-loop-i

@@ -1,11 +1,8 @@
 -- `readers::is_fact` meets its contract: the facts from i on have the number where all have it. Assumes nothing.
-use mathlib.Core.Path.{◌≡◌, refl, sym, ◌∙◌}
+use mathlib.Core.Path.{◌≡◌}
 use Prim.Native.Nat.{◌-◌, ◌≤◌}
-use native.Mathlib.Omega.{arith}
-use borrow.Author.Rules.{rules}
 use lib.ListN.{length, drop}
 use Rattle.readers.specs.Leaves.{is_in}
-use Rattle.readers.proofs.Bytes.{in-here, in-later, in-none}
 use Rattle.readers.proofs.is_fact.Given as goal
 
 abbrev pub invariant-loop-i : goal.invariant-loop-i

@@ -1,12 +1,10 @@
 -- `readers::is_kept` meets its contract: the clauses from k on are kept where all are. Assumes nothing.
 use mathlib.Core.Path.{◌≡◌, sym, ap, ◌∙◌}
-use Prim.Native.Nat.{ℕ, ◌-◌, ◌≤◌}
+use Prim.Native.Nat.{ℕ, ◌-◌}
 use native.Mathlib.Omega.{arith}
-use borrow.Author.Rules.{rules}
-use borrow.Author.Tests.{not-true, not-false}
 use Rattle.meaning.specs.Plain.{times_of}
 use Rattle.meaning.specs.Verdicts.{keeps}
-use Rattle.problem.specs.Laid.{clauses_from, clauses_in}
+use Rattle.problem.specs.Laid.{clauses_from}
 use Rattle.readers.proofs.Keeping.{keeps-not, keeps-more, keeps-all}
 use Rattle.readers.proofs.is_kept.Goals as goal
 

@@ -1,13 +1,9 @@
 -- `readers::is_kept` meets its contract: the clauses from k on are kept where all are. Assumes nothing.
-use mathlib.Core.Path.{◌≡◌, sym, ap, ◌∙◌}
-use Prim.Native.Nat.{ℕ, ◌-◌, ◌≤◌}
-use native.Mathlib.Omega.{arith}
-use borrow.Author.Rules.{rules}
-use borrow.Author.Tests.{not-true, not-false}
+use mathlib.Core.Path.{◌≡◌}
+use Prim.Native.Nat.{◌-◌, ◌≤◌}
 use Rattle.meaning.specs.Plain.{times_of}
 use Rattle.meaning.specs.Verdicts.{keeps}
 use Rattle.problem.specs.Laid.{clauses_from, clauses_in}
-use Rattle.readers.proofs.Keeping.{keeps-not, keeps-more, keeps-all}
 use Rattle.readers.proofs.is_kept.Given as goal
 
 abbrev pub invariant-loop-k : goal.invariant-loop-k

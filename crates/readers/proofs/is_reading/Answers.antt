@@ -1,7 +1,6 @@
 -- `readers::is_reading` meets its contract: the reading from the first row, and the bytes after it. Assumes nothing.
 use mathlib.Core.Path.{refl, sym, ◌∙◌}
 use native.Mathlib.Omega.{arith}
-use borrow.Author.Rules.{rules}
 use lib.ListN.{replicate}
 use Rattle.problem.specs.Laid.{clauses_in}
 use Rattle.readers.proofs.Standings.{undecided}

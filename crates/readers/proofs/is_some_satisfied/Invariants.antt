@@ -1,14 +1,10 @@
 -- `readers::is_some_satisfied` meets its contract: the alternatives from j on have a satisfied one where the clause has. Assumes nothing.
-use mathlib.Core.Path.{◌≡◌, refl, sym, ◌∙◌}
-use Prim.Native.Nat.{suc, ◌+◌, ◌-◌, ◌≤◌}
-use native.Mathlib.Omega.{arith}
-use borrow.Author.Rules.{rules}
+use mathlib.Core.Path.{◌≡◌}
+use Prim.Native.Nat.{◌-◌, ◌≤◌}
 use Rattle.meaning.specs.Plain.{times_of}
 use Rattle.meaning.specs.Verdicts.{some}
 use Rattle.problem.specs.Arcs.{at, arcs_from}
 use Rattle.problem.specs.Laid.{arcs, clause_of}
-use Rattle.readers.proofs.Clauses.{numbers}
-use Rattle.readers.proofs.Keeping.{some-here, some-later, some-none}
 use Rattle.readers.proofs.is_some_satisfied.Given as goal
 
 abbrev pub invariant-loop-j : goal.invariant-loop-j

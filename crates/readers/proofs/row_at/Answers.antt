@@ -2,7 +2,6 @@
 use mathlib.Core.Path.{◌≡◌, sym}
 use Prim.Native.Nat.{◌+◌, ◌-◌, ◌*◌}
 use native.Mathlib.Omega.{arith}
-use borrow.Author.Rules.{rules}
 use Rattle.meaning.specs.Limits.{row_bytes}
 use Rattle.readers.proofs.Rows.{row_is, row-none}
 use Rattle.readers.proofs.row_at.Goals as goal

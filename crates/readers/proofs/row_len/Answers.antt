@@ -1,10 +1,5 @@
 -- `readers::row_len` meets its contract: no 255 among the first i bytes. Assumes nothing.
-use mathlib.Core.Path.{◌≡◌}
-use Prim.Native.Nat.{◌+◌, ◌-◌, ◌≤◌}
 use native.Mathlib.Omega.{arith}
-use borrow.Author.Rules.{rules}
-use lib.ListN.{length, drop}
-use Rattle.meaning.specs.Reasons.{numbers}
 use Rattle.readers.proofs.Bytes.{numbers-end, numbers_more, numbers-none}
 use Rattle.readers.proofs.row_len.Goals as goal
 

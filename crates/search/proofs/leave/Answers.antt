@@ -2,7 +2,6 @@
 use Rattle.problem.specs.Laid.{clauses_in}
 use Rattle.search.proofs.Ranks.{open_next}
 use mathlib.Core.Path.{refl}
-use borrow.Author.Rules.{rules}
 use Rattle.search.proofs.leave.Goals as goal
 
 pub returns-then-a : goal.returns-then-a

@@ -1,12 +1,5 @@
 -- `search::run` meets its contract: the whole search is what was closed so far, and the search from the place. Assumes nothing.
-use mathlib.Core.Path.{◌≡◌, refl, sym, ◌∙◌}
-use mathlib.Core.List.{[]}
-use lib.ListN.{length}
-use borrow.Author.Tests.{not-true, not-false}
-use Rattle.meaning.specs.Decision.{sound}
-use Rattle.meaning.specs.Search.{search}
-use Rattle.problem.specs.Laid.{clauses_in}
-use Rattle.search.specs.Steps.{effort, Fine, At}
+use mathlib.Core.Path.{refl, sym, ◌∙◌}
 use Rattle.search.proofs.Visiting.{start_fine, start-here, run-goes, run_ends}
 use Rattle.search.proofs.run.Goals as goal
 
@@ -15,7 +8,7 @@ loop-p-init c =
     (start_fine c.args.p c.requires.0 c.args.allowance _ c.requires.1, start-here c.args.p c.requires.0 c.args.allowance _ c.args.reasons.now c.requires.2, refl)
 
 pub step-w-requires : goal.step-w-requires
-step-w-requires c =     (c.requires.0, c.loop-p.invariant.0, c.requires.1)
+step-w-requires c = (c.requires.0, c.loop-p.invariant.0, c.requires.1)
 
 pub goes_on-requires : goal.goes_on-requires
 goes_on-requires c = tt

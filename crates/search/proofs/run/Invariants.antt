@@ -1,13 +1,11 @@
 -- `search::run` meets its contract: the whole search is what was closed so far, and the search from the place. Assumes nothing.
-use mathlib.Core.Path.{◌≡◌, refl, sym, ◌∙◌}
+use mathlib.Core.Path.{◌≡◌}
 use mathlib.Core.List.{[]}
 use lib.ListN.{length}
-use borrow.Author.Tests.{not-true, not-false}
 use Rattle.meaning.specs.Decision.{sound}
 use Rattle.meaning.specs.Search.{search}
 use Rattle.problem.specs.Laid.{clauses_in}
 use Rattle.search.specs.Steps.{effort, Fine, At}
-use Rattle.search.proofs.Visiting.{start_fine, start-here, run-goes, run_ends}
 use Rattle.search.proofs.run.Given as goal
 
 abbrev pub invariant-loop-p : goal.invariant-loop-p

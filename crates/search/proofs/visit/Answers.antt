@@ -22,7 +22,7 @@ put_cycles-rows-requires c =
 pub returns-then-d-p : goal.returns-then-d-p
 returns-then-d-p c =
     let long-picks : length c.args.s.picks ≡ 32 = (search rules) in
-        let d = c.first_dead-d in
+    let d = c.first_dead-d in
     let marked : c.put_row.new.reasons ≡ put_row c.args.reasons.now c.args.s.rows (mark_row row_bytes (dead_mark + d.result)) = c.put_row.ensures ∙ ap (put_row c.args.reasons.now c.args.s.rows) c.mark_row-mark.ensures in
     let size : length c.put_cycles-rows.new.reasons ≡ length c.put_row.new.reasons = c.put_cycles-rows.auto.reasons in
     visits-dead c.args.p c.requires.0 c.args.f c.args.s (long-picks) c.args.reasons.now d.result c.put_cycles-rows.result c.put_cycles-rows.new.reasons c.leave.result d.ensures c.if-d-p.true
@@ -32,6 +32,6 @@ returns-then-d-p c =
 pub returns : goal.returns
 returns c =
     let long-picks : length c.args.s.picks ≡ 32 = (search rules) in
-        let d = c.first_dead-d in
+    let d = c.first_dead-d in
     let marked : c.put_row-2.new.reasons ≡ put_row c.args.reasons.now c.args.s.rows (mark_row row_bytes onward_mark) = c.put_row-2.ensures ∙ ap (put_row c.args.reasons.now c.args.s.rows) c.mark_row-mark-2.ensures in
     visits-open c.args.p c.requires.0 c.args.f c.args.s (long-picks) c.args.reasons.now d.result c.put_row-2.new.reasons marked d.ensures (omega (arith, c.if-d-p.false)) c.requires.3

@@ -1,5 +1,4 @@
 -- `goes_before` says which of two rows goes before: by how many numbers they have, or by the first. Assumes nothing.
-use borrow.Author.Rules.{rules}
 use Rattle.shortest.proofs.Choosing.{says-as-many, says-fewer}
 use Rattle.shortest.proofs.goes_before.Goals as goal
 

@@ -1,6 +1,5 @@
 -- `look` finds the first row from an event: the rounds to it tell how many facts it has, and the front that is led on is it. Assumes nothing.
 use native.Mathlib.Omega.{arith}
-use borrow.Author.Rules.{rules}
 use Rattle.shortest.proofs.Targets.{closes-own}
 use Rattle.shortest.proofs.Choosing.{looks-some, looks-none}
 use Rattle.shortest.proofs.look.Goals as goal

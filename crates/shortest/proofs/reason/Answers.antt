@@ -1,14 +1,9 @@
 -- `reason` is the row of the shortest reason: after t turns it has the best row of the events below t. Assumes nothing.
-use Prim.Native.Nat.{◌+◌, ◌-◌, ◌≤◌}
 use mathlib.Core.Path.{◌≡◌}
-use mathlib.Core.Logic.{⊎_elim}
 use native.Mathlib.Omega.{arith}
 use borrow.Author.Rules.{rules}
-use lib.ListN.{length}
 use Rattle.meaning.specs.Limits.{most_events}
-use Rattle.problem.specs.Arcs.{net}
 use Rattle.facts.proofs.Deciding.{within_more}
-use Rattle.shortest.specs.Best.{Best}
 use Rattle.shortest.proofs.Choosing.{best-start, best-new, best-old}
 use Rattle.shortest.proofs.Naming.{best-names}
 use Rattle.shortest.proofs.reason.Goals as goal
@@ -27,8 +22,9 @@ loop-t-preserved c =
     let q = c.look-new.ensures in
     let says = c.goes_before.ensures in (
       elim c.if-goes_before.branch [
-          then-goes_before w ↦ rw w.best-is (best-new _ _ c.args.n l.t c.smaller-most.result l.best.size _ l.best.row _ c.requires.2 c.smaller-most.ensures.2 l.invariant.0 q (says.yes w.if-goes_before.true))
-        | else-goes_before w ↦ rw w.best-is (best-old _ _ c.args.n l.t c.smaller-most.result l.best.size _ l.best.row _ c.requires.2 c.smaller-most.ensures.2 l.invariant.0 q (says.no w.if-goes_before.false)) ],
+        | then-goes_before w ↦ rw w.best-is (best-new _ _ c.args.n l.t c.smaller-most.result l.best.size _ l.best.row _ c.requires.2 c.smaller-most.ensures.2 l.invariant.0 q (says.yes w.if-goes_before.true))
+        | else-goes_before w ↦ rw w.best-is (best-old _ _ c.args.n l.t c.smaller-most.result l.best.size _ l.best.row _ c.requires.2 c.smaller-most.ensures.2 l.invariant.0 q (says.no w.if-goes_before.false))
+      ],
       search rules,
       omega arith,
     )

@@ -1,16 +1,10 @@
 -- `reason` is the row of the shortest reason: after t turns it has the best row of the events below t. Assumes nothing.
 use Prim.Native.Nat.{◌+◌, ◌-◌, ◌≤◌}
 use mathlib.Core.Path.{◌≡◌}
-use mathlib.Core.Logic.{⊎_elim}
-use native.Mathlib.Omega.{arith}
-use borrow.Author.Rules.{rules}
 use lib.ListN.{length}
 use Rattle.meaning.specs.Limits.{most_events}
 use Rattle.problem.specs.Arcs.{net}
-use Rattle.facts.proofs.Deciding.{within_more}
 use Rattle.shortest.specs.Best.{Best}
-use Rattle.shortest.proofs.Choosing.{best-start, best-new, best-old}
-use Rattle.shortest.proofs.Naming.{best-names}
 use Rattle.shortest.proofs.reason.Given as goal
 
 abbrev pub invariant-loop-t : goal.invariant-loop-t

@@ -1,5 +1,4 @@
 -- `solve::put_saying` meets its contract: by the case of what is said. Assumes nothing.
-use borrow.Author.Rules.{rules}
 use Rattle.grammar.specs.Grammar.{bytes}
 use Rattle.solve.specs.Says.{said}
 use Rattle.solve.proofs.put_saying.Goals as goal

@@ -1,5 +1,4 @@
 -- `solve::saying_of` meets its contract: by the case of the answer. Assumes nothing.
-use borrow.Author.Rules.{rules}
 use Rattle.solve.specs.Says.{of_answer}
 use Rattle.solve.proofs.saying_of.Goals as goal
 

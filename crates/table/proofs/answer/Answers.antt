@@ -1,7 +1,5 @@
 -- `answer` is safe and ends. Assumes nothing.
-use Prim.Native.Nat.{◌-◌}
 use native.Mathlib.Omega.{arith}
-use borrow.Author.Rules.{rules}
 use lib.ListN.{length-take}
 use Rattle.table.proofs.answer.Goals as goal
 

@@ -1,6 +1,5 @@
 -- `main` is safe and ends. Assumes nothing.
 use Prim.Native.Nat.{ℕ}
-use borrow.Author.Rules.{rules}
 use mathlib.Core.Path.{sym}
 use lib.IntN.{pos}
 use lib.ListN.{length-replicate}

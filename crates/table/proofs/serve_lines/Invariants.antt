@@ -1,12 +1,11 @@
 -- `serve_lines` meets its contract: a line lies within the text. Assumes nothing.
 use Prim.Native.Nat.{◌≤◌, ◌-◌}
 use mathlib.Core.Path.{◌≡◌}
-use borrow.Author.Rules.{rules}
 use lib.ListN.{length}
 use Rattle.table.proofs.serve_lines.Given as goal
 
 abbrev pub invariant-loop-end : goal.invariant-loop-end
-invariant-loop-end l = 
+invariant-loop-end l =
     (l.start ≤ l.end) ×
     ((l.end ≤ length l.text) ×
     ((length l.reply ≡ length l.initial.reply) ×

@@ -1,7 +1,6 @@
 -- `take_turn` meets its contract. Assumes nothing.
 use Prim.Native.Nat.{◌+◌}
 use native.Mathlib.Omega.{arith}
-use borrow.Author.Rules.{rules}
 use lib.ListN.{length-take}
 use Rattle.table.proofs.take_turn.Goals as goal
 

@@ -1,7 +1,6 @@
 -- `talk` is safe and ends: the turns that are left fall, and what is kept lies within the text. Assumes nothing.
 use Prim.Native.Nat.{◌≤◌}
 use mathlib.Core.Path.{◌≡◌}
-use borrow.Author.Rules.{rules}
 use lib.ListN.{length}
 use Rattle.table.proofs.talk.Given as goal
 

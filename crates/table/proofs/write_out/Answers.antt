@@ -1,7 +1,5 @@
 -- `write_out` is safe and ends. Assumes nothing.
-use Prim.Native.Nat.{◌-◌}
 use native.Mathlib.Omega.{arith}
-use borrow.Author.Rules.{rules}
 use lib.ListN.{length-take}
 use Rattle.table.proofs.write_out.Goals as goal
 

@@ -1,7 +1,6 @@
 -- `taking::adds` meets its contract: the arc is added where it was found to fit. Assumes nothing.
 use Prim.Native.Nat.{◌<◌}
 use native.Mathlib.Omega.{arith}
-use borrow.Author.Rules.{rules}
 use Rattle.problem.specs.Arcs.{net, arc, bound}
 use Rattle.taking.proofs.Lying.{arc-stands}
 use Rattle.taking.proofs.Adding.{room_for, adds_one, adds_none}

@@ -1,16 +1,8 @@
 -- `taking::is_dead` meets its contract: what was found alive, or whether the arcs still to come are dead, is whether all are. Assumes nothing.
-use mathlib.Core.Path.{◌≡◌, refl}
-use mathlib.Core.Bool.{false, cond}
-use mathlib.Core.Logic.{⊎_elim}
-use mathlib.Core.List.{List}
-use Prim.Native.Nat.{◌+◌, ◌-◌, ◌≤◌}
+use mathlib.Core.Path.{refl}
+use Prim.Native.Nat.{◌+◌}
 use native.Mathlib.Omega.{arith}
-use Rattle.meaning.specs.Problem.{Alternative}
-use Rattle.meaning.specs.Decision.{sound}
-use Rattle.meaning.specs.Search.{dead}
-use Rattle.problem.specs.Arcs.{net, arcs_from}
-use Rattle.distances.specs.Distances.{DayOf}
-use Rattle.distances.specs.Numbers.{table_at}
+use Rattle.problem.specs.Arcs.{net}
 use Rattle.taking.proofs.Dying.{alive-yes, alive-no, alive-end, alive-then}
 use Rattle.taking.proofs.is_dead.Goals as goal
 use Rattle.taking.proofs.is_dead.Goals.{then-fits, else-fits}
@@ -19,14 +11,15 @@ pub loop-j-init : goal.loop-j-init
 loop-j-init c = (λ fs day. refl, c.requires.1)
 
 pub fits-requires : goal.fits-requires
-fits-requires c =     (c.requires.0, c.requires.3 c.loop-j.j c.loop-j-test.true, omega arith, c.requires.4)
+fits-requires c = (c.requires.0, c.requires.3 c.loop-j.j c.loop-j-test.true, omega arith, c.requires.4)
 
 pub loop-j-preserved : goal.loop-j-preserved
 loop-j-preserved c =
     let g = net c.args.xs.now c.args.ys.now c.args.bs.now in (
       λ fs day. elim c.if-fits.branch [
-          then-fits w ↦ alive-then fs g (c.loop-j.j + 1) c.args.end _ w.alive-is (alive-yes fs g c.loop-j.j c.args.end _ c.loop-j.alive (c.loop-j.invariant.0 fs day) c.loop-j-test.true c.fits.result (c.fits.ensures fs day) w.if-fits.true)
-        | else-fits w ↦ alive-then fs g (c.loop-j.j + 1) c.args.end _ w.alive-is (alive-no fs g c.loop-j.j c.args.end _ c.loop-j.alive (c.loop-j.invariant.0 fs day) c.loop-j-test.true c.fits.result (c.fits.ensures fs day) w.if-fits.false) ],
+        | then-fits w ↦ alive-then fs g (c.loop-j.j + 1) c.args.end _ w.alive-is (alive-yes fs g c.loop-j.j c.args.end _ c.loop-j.alive (c.loop-j.invariant.0 fs day) c.loop-j-test.true c.fits.result (c.fits.ensures fs day) w.if-fits.true)
+        | else-fits w ↦ alive-then fs g (c.loop-j.j + 1) c.args.end _ w.alive-is (alive-no fs g c.loop-j.j c.args.end _ c.loop-j.alive (c.loop-j.invariant.0 fs day) c.loop-j-test.true c.fits.result (c.fits.ensures fs day) w.if-fits.false)
+      ],
       omega arith,
     )
 

@@ -1,17 +1,14 @@
 -- `taking::is_dead` meets its contract: what was found alive, or whether the arcs still to come are dead, is whether all are. Assumes nothing.
-use mathlib.Core.Path.{◌≡◌, refl}
+use mathlib.Core.Path.{◌≡◌}
 use mathlib.Core.Bool.{false, cond}
-use mathlib.Core.Logic.{⊎_elim}
 use mathlib.Core.List.{List}
-use Prim.Native.Nat.{◌+◌, ◌-◌, ◌≤◌}
-use native.Mathlib.Omega.{arith}
+use Prim.Native.Nat.{◌-◌, ◌≤◌}
 use Rattle.meaning.specs.Problem.{Alternative}
 use Rattle.meaning.specs.Decision.{sound}
 use Rattle.meaning.specs.Search.{dead}
 use Rattle.problem.specs.Arcs.{net, arcs_from}
 use Rattle.distances.specs.Distances.{DayOf}
 use Rattle.distances.specs.Numbers.{table_at}
-use Rattle.taking.proofs.Dying.{alive-yes, alive-no, alive-end, alive-then}
 use Rattle.taking.proofs.is_dead.Given as goal
 
 abbrev pub invariant-loop-j : goal.invariant-loop-j

@@ -2,7 +2,6 @@
 use mathlib.Core.Path.{refl}
 use mathlib.Core.Bool.{true≢false}
 use Prim.Native.Nat.{◌+◌}
-use borrow.Author.Rules.{rules}
 use Rattle.meaning.specs.Limits.{opposite_from}
 use Rattle.problem.specs.Arcs.{net, arc}
 use Rattle.taking.proofs.Lying.{arc-bounded}

@@ -1,16 +1,14 @@
 -- `taking::takes` meets its contract: the opposites passed over so far are in the table. Assumes nothing.
 use mathlib.Core.Path.{◌≡◌, subst}
-use Prim.Native.Nat.{ℕ, ◌+◌, ◌-◌, ◌*◌, ◌≤◌}
+use Prim.Native.Nat.{ℕ}
 use native.Mathlib.Omega.{arith}
-use lib.ListN.{length}
-use borrow.Author.Rules.{rules}
 use borrow.Author.Tests.{not-true, not-false}
 use Rattle.problem.specs.Arcs.{net}
 use Rattle.taking.proofs.Adding.{takes_none, Taking, taking-none, taking-held, taking-more, taking-fails, taking-ends}
 use Rattle.taking.proofs.takes.Goals as goal
 
 pub fits-requires : goal.fits-requires
-fits-requires c =     (omega arith, c.requires.4.own c.args.last (omega arith), omega (arith, c.requires.4.few), c.requires.5)
+fits-requires c = (omega arith, c.requires.4.own c.args.last (omega arith), omega (arith, c.requires.4.few), c.requires.5)
 
 pub returns-then-not-fits : goal.returns-then-not-fits
 returns-then-not-fits c =

@@ -1,12 +1,8 @@
 -- `taking::takes` meets its contract: the opposites passed over so far are in the table. Assumes nothing.
-use mathlib.Core.Path.{◌≡◌, subst}
-use Prim.Native.Nat.{ℕ, ◌+◌, ◌-◌, ◌*◌, ◌≤◌}
-use native.Mathlib.Omega.{arith}
+use Prim.Native.Nat.{◌+◌, ◌-◌, ◌*◌, ◌≤◌}
 use lib.ListN.{length}
-use borrow.Author.Rules.{rules}
-use borrow.Author.Tests.{not-true, not-false}
 use Rattle.problem.specs.Arcs.{net}
-use Rattle.taking.proofs.Adding.{takes_none, Taking, taking-none, taking-held, taking-more, taking-fails, taking-ends}
+use Rattle.taking.proofs.Adding.{Taking}
 use Rattle.taking.proofs.takes.Given as goal
 
 abbrev pub invariant-loop-j : goal.invariant-loop-j

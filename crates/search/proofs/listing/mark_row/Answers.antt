@@ -1,7 +1,6 @@
 -- `search::listing::mark_row` meets its contract. Assumes nothing.
 use mathlib.Core.Path.{refl}
 use Rattle.meaning.specs.Reasons.{mark_row}
-use borrow.Author.Rules.{rules}
 use Rattle.search.proofs.listing.mark_row.Goals as goal
 
 pub returns : goal.returns

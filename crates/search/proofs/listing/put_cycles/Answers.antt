@@ -2,7 +2,7 @@
 use mathlib.Core.Path.{◌≡◌, refl, sym, ap, ◌∙◌, subst}
 use mathlib.Core.Bool.{true, false}
 use mathlib.Core.List.{List, ◌∷◌, map}
-use Prim.Native.Nat.{ℕ, ◌+◌, ◌-◌, ◌≤◌}
+use Prim.Native.Nat.{ℕ, ◌+◌, ◌-◌}
 use native.Mathlib.Omega.{arith}
 use native.Mathlib.Numerals.{add-one}
 use lib.ListN.{length}
@@ -55,10 +55,9 @@ put-g-requires c = (c.requires.1.free, c.requires.1.fits)
 pub put_reason-requires : goal.put_reason-requires
 put_reason-requires c =
     let both : (sound (arc (arcs c.args.p) c.loop-j.j ∷ facts_in c.args.p c.args.f) ≡ false) × (dead sound (facts_in c.args.p c.args.f) (arcs_from (arcs c.args.p) (c.loop-j.j + 1) (at c.args.p.starts (c.args.d + 1) - (c.loop-j.j + 1))) ≡ true) = (dead-all (facts_in c.args.p c.args.f) (arcs c.args.p) c.loop-j.j (at c.args.p.starts (c.args.d + 1)) c.loop-j-test.true c.loop-j.invariant.5) in
-        let last : at c.args.p.starts (c.args.d + 1) ≡ at c.args.p.starts c.args.d + size_of c.args.p c.args.d = ap (at c.args.p.starts) (add-one _) ∙ clause-last c.args.p c.requires.0 c.args.d c.requires.2 in
+    let last : at c.args.p.starts (c.args.d + 1) ≡ at c.args.p.starts c.args.d + size_of c.args.p c.args.d = ap (at c.args.p.starts) (add-one _) ∙ clause-last c.args.p c.requires.0 c.args.d c.requires.2 in
     let most = size-most c.args.p c.requires.0 c.args.d c.requires.2 in
-    let ends = clause-ends c.args.p c.requires.0 c.args.d c.requires.2 in
-    (
+    let ends = clause-ends c.args.p c.requires.0 c.args.d c.requires.2 in (
       c.requires.0,
       omega (arith, c.put-g.ensures.1, c.requires.1.fits),
       subst (λ (L : List ℕ). Within (arcs c.args.p) L c.args.p.n) (sym c.put-g.ensures.0) (record { known = known_more (arcs c.args.p) c.args.p.n c.loop-j.j (held c.args.f) (c.requires.0.alternative c.loop-j.j (omega arith)) c.requires.1.within.known; few = c.requires.1.within.few }),
@@ -83,7 +82,7 @@ overflow_add-j c =
 pub loop-j-preserved : goal.loop-j-preserved
 loop-j-preserved c =
     let both : (sound (arc (arcs c.args.p) c.loop-j.j ∷ facts_in c.args.p c.args.f) ≡ false) × (dead sound (facts_in c.args.p c.args.f) (arcs_from (arcs c.args.p) (c.loop-j.j + 1) (at c.args.p.starts (c.args.d + 1) - (c.loop-j.j + 1))) ≡ true) = (dead-all (facts_in c.args.p c.args.f) (arcs c.args.p) c.loop-j.j (at c.args.p.starts (c.args.d + 1)) c.loop-j-test.true c.loop-j.invariant.5) in
-        let l = c.loop-j in
+    let l = c.loop-j in
     let x = cycle (arc (arcs c.args.p) l.j ∷ facts_in c.args.p c.args.f) in
     let put : c.put_reason.new.reasons ≡ put_row l.reasons l.k (row_of row_bytes x) = c.put_reason.ensures ∙ ap (λ (L : List ℕ). put_row l.reasons l.k (row_of row_bytes (cycle (map (arc (arcs c.args.p)) L)))) c.put-g.ensures.0 in (
       subst (λ (r : List ℕ). Keeps c.args.reasons.now r c.args.rows (map (λ a. cycle (a ∷ facts_in c.args.p c.args.f)) (arcs_from (arcs c.args.p) (at c.args.p.starts c.args.d) (l.j + 1 - at c.args.p.starts c.args.d)))) (sym put) (keep-cycle c.args.reasons.now l.reasons c.args.rows l.k (at c.args.p.starts c.args.d) l.j (arcs c.args.p) (facts_in c.args.p c.args.f) l.invariant.0 l.invariant.1 l.invariant.2 l.invariant.3),

@@ -1,26 +1,15 @@
 -- `search::listing::put_cycles` meets its contract: the cycle rows of the alternatives passed are kept, and those to come are dead. Assumes nothing.
-use mathlib.Core.Path.{◌≡◌, refl, sym, ap, ◌∙◌, subst}
-use mathlib.Core.Bool.{true, false}
-use mathlib.Core.List.{List, ◌∷◌, map}
-use Prim.Native.Nat.{ℕ, ◌+◌, ◌-◌, ◌≤◌}
-use native.Mathlib.Omega.{arith}
-use native.Mathlib.Numerals.{add-one}
+use mathlib.Core.Path.{◌≡◌}
+use mathlib.Core.Bool.{true}
+use mathlib.Core.List.{◌∷◌, map}
+use Prim.Native.Nat.{◌+◌, ◌-◌, ◌≤◌}
 use lib.ListN.{length}
-use Rattle.meaning.specs.Limits.{row_bytes}
-use Rattle.meaning.specs.Problem.{Alternative}
 use Rattle.meaning.specs.Decision.{sound}
 use Rattle.meaning.specs.Search.{cycle, dead}
-use Rattle.meaning.specs.Listing.{row_of}
-use Rattle.meaning.proofs.Listing.{row-length}
-use Rattle.problem.specs.Arcs.{Net, at, arc, arcs_from}
-use Rattle.problem.specs.Laid.{arcs, size_of}
-use Rattle.problem.proofs.Laying.{clause-last, clause-ends, size-most}
-use Rattle.problem.proofs.Knowing.{known_more}
-use Rattle.facts.specs.Tests.{Within}
-use Rattle.held.specs.Held.{held, facts_in}
-use Rattle.search.specs.Listing.{put_row, Keeps}
-use Rattle.search.proofs.Dead.{dead-all}
-use Rattle.search.proofs.Keeping.{keeps-none, keep-cycle, put-length}
+use Rattle.problem.specs.Arcs.{arcs_from}
+use Rattle.problem.specs.Laid.{arcs}
+use Rattle.held.specs.Held.{facts_in}
+use Rattle.search.specs.Listing.{Keeps}
 use Rattle.search.proofs.listing.put_cycles.Given as goal
 
 abbrev pub invariant-loop-j : goal.invariant-loop-j

@@ -3,11 +3,10 @@ use mathlib.Core.Path.{sym, ap, ◌∙◌}
 use native.Mathlib.Omega.{arith}
 use Rattle.search.specs.Listing.{put_row}
 use Rattle.search.proofs.Keeping.{put-not}
-use borrow.Author.Rules.{rules}
 use Rattle.search.proofs.listing.put_reason.Goals as goal
 
 pub returns-then-rows-reasons : goal.returns-then-rows-reasons
-returns-then-rows-reasons c =     c.put_row.ensures ∙ ap (put_row c.args.reasons.now c.args.rows) c.reason-row.ensures
+returns-then-rows-reasons c = c.put_row.ensures ∙ ap (put_row c.args.reasons.now c.args.rows) c.reason-row.ensures
 
 pub returns-else-rows-reasons : goal.returns-else-rows-reasons
-returns-else-rows-reasons c =     sym (put-not c.args.reasons.now c.args.rows _ (omega arith))
+returns-else-rows-reasons c = sym (put-not c.args.reasons.now c.args.rows _ (omega arith))

@@ -1,12 +1,9 @@
 -- `search::places::rank_of` meets its contract: the rank of the positions from i on among the clauses from i on, and their product. Assumes nothing.
-use mathlib.Core.Path.{◌≡◌, sym, ap, ◌∙◌}
-use Prim.Native.Nat.{ℕ, ◌+◌, ◌-◌, ◌*◌, ◌≤◌}
-use native.Mathlib.Omega.{arith}
-use lib.ListN.{length, take, drop}
-use borrow.Author.Rules.{rules}
+use mathlib.Core.Path.{◌≡◌}
+use Prim.Native.Nat.{◌-◌, ◌≤◌}
+use lib.ListN.{take, drop}
 use Rattle.meaning.specs.Plain.{product, rank}
 use Rattle.problem.specs.Laid.{clauses_from}
-use Rattle.search.proofs.Ranks.{product_small, product-grown, rank-grown, rank-small, rank-end}
 use Rattle.search.proofs.places.rank_of.Given as goal
 
 abbrev pub invariant-loop-i : goal.invariant-loop-i

@@ -1,6 +1,6 @@
 -- `search::places::under` meets its contract: the product of the clauses from i on. Assumes nothing.
 use mathlib.Core.Path.{◌≡◌, sym, ap, ◌∙◌}
-use Prim.Native.Nat.{ℕ, ◌-◌, ◌*◌, ◌≤◌}
+use Prim.Native.Nat.{ℕ, ◌-◌, ◌*◌}
 use native.Mathlib.Omega.{arith}
 use Rattle.meaning.specs.Plain.{product}
 use Rattle.problem.specs.Laid.{clauses_from}

@@ -1,10 +1,8 @@
 -- `search::places::under` meets its contract: the product of the clauses from i on. Assumes nothing.
-use mathlib.Core.Path.{◌≡◌, sym, ap, ◌∙◌}
-use Prim.Native.Nat.{ℕ, ◌-◌, ◌*◌, ◌≤◌}
-use native.Mathlib.Omega.{arith}
+use mathlib.Core.Path.{◌≡◌}
+use Prim.Native.Nat.{◌-◌, ◌≤◌}
 use Rattle.meaning.specs.Plain.{product}
 use Rattle.problem.specs.Laid.{clauses_from}
-use Rattle.search.proofs.Ranks.{product_small, product-grown, product-end}
 use Rattle.search.proofs.places.under.Given as goal
 
 abbrev pub invariant-loop-i : goal.invariant-loop-i

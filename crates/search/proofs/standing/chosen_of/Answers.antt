@@ -7,8 +7,6 @@ use lib.ListN.{length, take, drop}
 use borrow.Author.Rules.{rules}
 use Rattle.problem.specs.Arcs.{at}
 use Rattle.problem.proofs.Laying.{position-below}
-use Rattle.facts.specs.Tests.{places}
-use Rattle.held.specs.Held.{held}
 use Rattle.search.specs.Standing.{chosen_facts}
 use Rattle.search.proofs.Numbers.{chosen-front, chosen-end}
 use Rattle.search.proofs.standing.chosen_of.Goals as goal
@@ -33,7 +31,7 @@ overflow_add-starts c =
     omega (arith, c.requires.0.last)
 
 pub put-g-requires : goal.put-g-requires
-put-g-requires c =     (omega (arith, c.requires.0.few), omega arith)
+put-g-requires c = (omega (arith, c.requires.0.few), omega arith)
 
 pub loop-i-preserved : goal.loop-i-preserved
 loop-i-preserved c =

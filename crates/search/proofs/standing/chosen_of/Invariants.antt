@@ -1,16 +1,10 @@
 -- `search::standing::chosen_of` meets its contract: the alternatives of the positions from i on are held. Assumes nothing.
-use mathlib.Core.Path.{◌≡◌, sym, ap, ◌∙◌}
-use mathlib.Core.List.{List, ◌∷◌}
-use Prim.Native.Nat.{ℕ, ◌+◌, ◌-◌, ◌<◌, ◌≤◌}
-use native.Mathlib.Omega.{arith}
-use lib.ListN.{length, take, drop}
-use borrow.Author.Rules.{rules}
-use Rattle.problem.specs.Arcs.{at}
-use Rattle.problem.proofs.Laying.{position-below}
+use mathlib.Core.Path.{◌≡◌}
+use Prim.Native.Nat.{◌+◌, ◌≤◌}
+use lib.ListN.{take, drop}
 use Rattle.facts.specs.Tests.{places}
 use Rattle.held.specs.Held.{held}
 use Rattle.search.specs.Standing.{chosen_facts}
-use Rattle.search.proofs.Numbers.{chosen-front, chosen-end}
 use Rattle.search.proofs.standing.chosen_of.Given as goal
 
 abbrev pub invariant-loop-i : goal.invariant-loop-i

@@ -1,7 +1,6 @@
 -- `search::standing::facts_of` meets its contract: the positions still to come, put before what the buffer holds, give the facts of the standing. Assumes nothing.
 use mathlib.Core.Path.{◌≡◌, sym, ap, ◌∙◌}
-use mathlib.Core.List.{[]}
-use Prim.Native.Nat.{◌+◌, ◌-◌, ◌<◌, ◌≤◌}
+use Prim.Native.Nat.{◌+◌, ◌<◌, ◌≤◌}
 use native.Mathlib.Omega.{arith}
 use lib.ListN.{length, take, drop}
 use borrow.Author.Rules.{rules}
@@ -9,7 +8,6 @@ use native.Mathlib.Numerals.{add-one}
 use Rattle.problem.specs.Arcs.{at}
 use Rattle.problem.specs.Laid.{size_of}
 use Rattle.problem.proofs.Laying.{clause-last}
-use Rattle.facts.specs.Tests.{places}
 use Rattle.held.specs.Held.{held}
 use Rattle.search.specs.Standing.{standing_facts}
 use Rattle.search.proofs.Numbers.{standing-step, all-taken}

@@ -1,18 +1,12 @@
 -- `search::standing::facts_of` meets its contract: the positions still to come, put before what the buffer holds, give the facts of the standing. Assumes nothing.
-use mathlib.Core.Path.{◌≡◌, sym, ap, ◌∙◌}
+use mathlib.Core.Path.{◌≡◌}
 use mathlib.Core.List.{[]}
-use Prim.Native.Nat.{◌+◌, ◌-◌, ◌<◌, ◌≤◌}
-use native.Mathlib.Omega.{arith}
-use lib.ListN.{length, take, drop}
-use borrow.Author.Rules.{rules}
-use native.Mathlib.Numerals.{add-one}
+use Prim.Native.Nat.{◌+◌, ◌-◌, ◌≤◌}
+use lib.ListN.{take, drop}
 use Rattle.problem.specs.Arcs.{at}
-use Rattle.problem.specs.Laid.{size_of}
-use Rattle.problem.proofs.Laying.{clause-last}
 use Rattle.facts.specs.Tests.{places}
 use Rattle.held.specs.Held.{held}
 use Rattle.search.specs.Standing.{standing_facts}
-use Rattle.search.proofs.Numbers.{standing-step, all-taken}
 use Rattle.search.proofs.standing.facts_of.Given as goal
 
 abbrev pub invariant-loop-c : goal.invariant-loop-c

@@ -1,12 +1,11 @@
 -- `search::standing::first_dead` meets its contract: none of the clauses passed is dead. Assumes nothing.
-use mathlib.Core.Path.{◌≡◌, sym, ap, ◌∙◌}
-use Prim.Native.Nat.{ℕ, ◌-◌, ◌<◌, ◌≤◌}
-use native.Mathlib.Omega.{arith}
+use mathlib.Core.Path.{◌≡◌}
+use Prim.Native.Nat.{◌-◌, ◌≤◌}
 use Rattle.meaning.specs.Decision.{sound}
 use Rattle.meaning.specs.Search.{first_dead}
 use Rattle.problem.specs.Laid.{clauses_from}
 use Rattle.held.specs.Held.{facts_in}
-use Rattle.search.proofs.Dead.{ahead, ahead-zero, first_step, first_found, first-none}
+use Rattle.search.proofs.Dead.{ahead}
 use Rattle.search.proofs.standing.first_dead.Given as goal
 
 abbrev pub invariant-loop-d : goal.invariant-loop-d

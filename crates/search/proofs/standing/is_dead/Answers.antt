@@ -1,12 +1,12 @@
 -- `search::standing::is_dead` meets its contract: whether the arcs still to come are dead is whether the clause is. Assumes nothing.
 use mathlib.Core.Path.{◌≡◌, sym, ap, ◌∙◌}
-use Prim.Native.Nat.{ℕ, ◌+◌, ◌-◌, ◌≤◌}
+use Prim.Native.Nat.{ℕ, ◌+◌, ◌-◌}
 use native.Mathlib.Omega.{arith}
 use native.Mathlib.Numerals.{add-one}
 use Rattle.meaning.specs.Decision.{sound}
 use Rattle.meaning.specs.Search.{dead}
 use Rattle.problem.specs.Arcs.{at, arcs_from}
-use Rattle.problem.specs.Laid.{arcs, size_of, clause_of}
+use Rattle.problem.specs.Laid.{arcs, size_of}
 use Rattle.problem.proofs.Laying.{clause-last, clause-ends}
 use Rattle.held.specs.Held.{facts_in}
 use Rattle.search.proofs.Dead.{dead-found, dead-step, dead_end}

@@ -1,6 +1,6 @@
 -- `search::standing::taking` meets its contract: what is still to be taken, put before what is held, stays the same. Assumes nothing.
 use mathlib.Core.Path.{◌≡◌, refl, sym, ap, ◌∙◌}
-use Prim.Native.Nat.{ℕ, ◌+◌, ◌-◌, ◌<◌, ◌≤◌}
+use Prim.Native.Nat.{ℕ, ◌+◌, ◌-◌, ◌<◌}
 use native.Mathlib.Omega.{arith}
 use Rattle.problem.specs.Arcs.{at}
 use Rattle.problem.proofs.Laying.{position-below}

@@ -1,12 +1,8 @@
 -- `search::standing::taking` meets its contract: what is still to be taken, put before what is held, stays the same. Assumes nothing.
-use mathlib.Core.Path.{◌≡◌, refl, sym, ap, ◌∙◌}
-use Prim.Native.Nat.{ℕ, ◌+◌, ◌-◌, ◌<◌, ◌≤◌}
-use native.Mathlib.Omega.{arith}
-use Rattle.problem.specs.Arcs.{at}
-use Rattle.problem.proofs.Laying.{position-below}
+use mathlib.Core.Path.{◌≡◌}
+use Prim.Native.Nat.{◌+◌, ◌-◌, ◌≤◌}
 use Rattle.held.specs.Held.{held}
 use Rattle.search.specs.Standing.{takes}
-use Rattle.search.proofs.Numbers.{takes_step, takes-last}
 use Rattle.search.proofs.standing.taking.Given as goal
 
 abbrev pub invariant-loop-j : goal.invariant-loop-j

@@ -1,18 +1,11 @@
 -- `rounds_to` makes the rounds to a target: after r turns the table's rows up to r are those of r rounds, and after none of these the target stands above its start. Assumes nothing.
 use Prim.Native.Nat.{ℕ, ◌+◌, ◌-◌, ◌≤◌, ◌<◌}
-use mathlib.Core.Path.{◌≡◌, ◌∙◌}
-use mathlib.Core.List.{[]}
-use native.Mathlib.Omega.{arith}
-use borrow.Author.Count.{below_more}
-use lib.ListN.{length, length-set}
-use lib.Seq.{get_or-set_same}
+use mathlib.Core.Path.{◌≡◌}
+use lib.ListN.{length}
 use Rattle.meaning.specs.Limits.{most_events}
 use Rattle.problem.specs.Arcs.{net}
 use Rattle.facts.specs.Rounds.{Rounds}
-use Rattle.facts.proofs.Tables.{rounds-first, rounds-more}
 use Rattle.shortest.specs.Heights.{highest, start, height}
-use Rattle.shortest.proofs.Reaching.{turned-within}
-use Rattle.shortest.proofs.Targets.{start-below, row_under, round-height}
 use Rattle.shortest.proofs.heights.rounds_to.Given as goal
 
 abbrev pub invariant-loop-r : goal.invariant-loop-r

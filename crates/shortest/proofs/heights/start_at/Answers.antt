@@ -1,6 +1,5 @@
 -- `start_at` is the start of the rounds to a target. Assumes nothing.
 use mathlib.Core.Path.{refl}
-use borrow.Author.Rules.{rules}
 use Rattle.shortest.specs.Heights.{start}
 use Rattle.shortest.proofs.heights.start_at.Goals as goal
 

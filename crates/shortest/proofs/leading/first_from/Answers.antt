@@ -1,13 +1,12 @@
 -- `first_from` leads a front on: after i turns it has the i numbers of a front that can still be closed, and no closed row comes before it. Assumes nothing.
-use Prim.Native.Nat.{◌+◌, ◌-◌, ◌≤◌}
+use Prim.Native.Nat.{◌+◌, ◌≤◌}
 use native.Mathlib.Omega.{arith}
-use borrow.Author.Rules.{rules}
 use Rattle.meaning.specs.Limits.{most_events}
 use Rattle.problem.specs.Arcs.{net, bound, bias, Arc}
 use Rattle.shortest.specs.Heights.{peak}
 use Rattle.shortest.proofs.Reaching.{turned-within}
 use Rattle.shortest.proofs.Targets.{closes-small}
-use Rattle.shortest.proofs.Fronts.{Front, front-start, front-small, front-end, front-arc, front-need, front-more}
+use Rattle.shortest.proofs.Fronts.{front-start, front-small, front-end, front-arc, front-need, front-more}
 use Rattle.shortest.proofs.leading.first_from.Goals as goal
 
 pub loop-i-init : goal.loop-i-init

@@ -1,13 +1,7 @@
 -- `first_from` leads a front on: after i turns it has the i numbers of a front that can still be closed, and no closed row comes before it. Assumes nothing.
-use Prim.Native.Nat.{◌+◌, ◌-◌, ◌≤◌}
-use native.Mathlib.Omega.{arith}
-use borrow.Author.Rules.{rules}
-use Rattle.meaning.specs.Limits.{most_events}
-use Rattle.problem.specs.Arcs.{net, bound, bias, Arc}
-use Rattle.shortest.specs.Heights.{peak}
-use Rattle.shortest.proofs.Reaching.{turned-within}
-use Rattle.shortest.proofs.Targets.{closes-small}
-use Rattle.shortest.proofs.Fronts.{Front, front-start, front-small, front-end, front-arc, front-need, front-more}
+use Prim.Native.Nat.{◌-◌, ◌≤◌}
+use Rattle.problem.specs.Arcs.{net}
+use Rattle.shortest.proofs.Fronts.{Front}
 use Rattle.shortest.proofs.leading.first_from.Given as goal
 
 abbrev pub invariant-loop-i : goal.invariant-loop-i

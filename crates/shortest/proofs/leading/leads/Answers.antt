@@ -1,6 +1,5 @@
 -- `leads` says whether an arc leads on. Assumes nothing.
 use native.Mathlib.Omega.{arith}
-use borrow.Author.Rules.{rules}
 use Rattle.shortest.proofs.Picking.{says-leads, says-elsewhere}
 use Rattle.shortest.proofs.leading.leads.Goals as goal
 

@@ -1,11 +1,8 @@
 -- `next_arc` finds the smallest number that leads on: after i turns that of the first i facts. Assumes nothing.
 use Prim.Native.Nat.{◌-◌}
-use mathlib.Core.Logic.{⊎_elim}
-use native.Mathlib.Omega.{arith}
-use borrow.Author.Rules.{rules}
 use lib.ListN.{length}
 use Rattle.problem.specs.Arcs.{net}
-use Rattle.shortest.proofs.Picking.{Picking, picking-start, picking-kept, picking-taken, picking-end}
+use Rattle.shortest.proofs.Picking.{Picking}
 use Rattle.shortest.proofs.leading.next_arc.Given as goal
 
 abbrev pub invariant-loop-i : goal.invariant-loop-i

@@ -1,7 +1,6 @@
 -- `plan` is safe and ends. Assumes nothing.
 use mathlib.Core.Path.{sym, ◌∙◌}
 use native.Mathlib.Omega.{arith}
-use borrow.Author.Rules.{rules}
 use lib.ListN.{length-take}
 use Rattle.exchange.proofs.Asking.{head_in}
 use Rattle.table.proofs.operations.plan.Goals as goal

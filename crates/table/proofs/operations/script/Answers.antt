@@ -1,7 +1,6 @@
 -- `script` is safe and ends. Assumes nothing.
 use mathlib.Core.Path.{sym, ◌∙◌}
 use native.Mathlib.Omega.{arith}
-use borrow.Author.Rules.{rules}
 use lib.ListN.{length-take}
 use Rattle.script.proofs.Fronts.{script-within}
 use Rattle.exchange.proofs.Asking.{list_count}

@@ -1,7 +1,6 @@
 -- `write` is safe and ends. Assumes nothing.
 use mathlib.Core.Path.{sym, ◌∙◌}
 use native.Mathlib.Omega.{arith}
-use borrow.Author.Rules.{rules}
 use lib.ListN.{length, length-take}
 use Rattle.exchange.proofs.Asking.{count-in, lists-in}
 use Rattle.table.proofs.operations.write.Goals as goal

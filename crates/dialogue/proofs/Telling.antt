@@ -4,13 +4,9 @@ use mathlib.Core.Path.{◌≡◌, refl}
 use mathlib.Core.Option.{Option, none, some}
 use lib.IntN.{ℤ}
 use Rattle.dialogue.specs.declared.reading.Number.{Number}
-use Rattle.dialogue.specs.declared.reading.Number.TheVariants as Number
 use Rattle.dialogue.specs.declared.reading.Signed.{Signed}
-use Rattle.dialogue.specs.declared.reading.Signed.TheVariants as Signed
 use Rattle.dialogue.specs.declared.reading.Next.{Next}
-use Rattle.dialogue.specs.declared.reading.Next.TheVariants as Next
 use Rattle.dialogue.specs.declared.reading.NextSigned.{NextSigned}
-use Rattle.dialogue.specs.declared.reading.NextSigned.TheVariants as NextSigned
 use Rattle.dialogue.specs.Told.{as_number, as_signed, as_next, as_next_signed}
 
 pub number-some : (o : Option ℕ) (r : Number) (v : ℕ) → r ≡ Number.Of v → r ≡ as_number o → o ≡ some v

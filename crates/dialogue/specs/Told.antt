@@ -2,15 +2,10 @@
 use Rattle.std.specs.Prelude.{ℕ, ℤ}
 use Rattle.std.proofs.Math.Option.{Option, none, some}
 use Rattle.dialogue.specs.declared.reading.Number.{Number}
-use Rattle.dialogue.specs.declared.reading.Number.TheVariants as Number
 use Rattle.dialogue.specs.declared.reading.Signed.{Signed}
-use Rattle.dialogue.specs.declared.reading.Signed.TheVariants as Signed
 use Rattle.dialogue.specs.declared.reading.Next.{Next}
-use Rattle.dialogue.specs.declared.reading.Next.TheVariants as Next
 use Rattle.dialogue.specs.declared.reading.NextSigned.{NextSigned}
-use Rattle.dialogue.specs.declared.reading.NextSigned.TheVariants as NextSigned
 use Rattle.dialogue.specs.declared.reading.Listed.{Listed}
-use Rattle.dialogue.specs.declared.reading.Listed.TheVariants as Listed
 
 abbrev pub as_number : Option ℕ → Number
 as_number none = Number.Malformed

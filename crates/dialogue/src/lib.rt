@@ -1,6 +1,7 @@
 // Words and numbers in lent text: those of a line read, and bytes and numbers written into a buffer.
 // A line is words parted by single spaces, with none at either end; a word holds at least one byte.
 #![tactic(auto)]
+
 mod bits;
 mod reading;
 mod writing;

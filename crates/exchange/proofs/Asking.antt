@@ -10,22 +10,15 @@ use lib.IntN.{ℤ}
 use lib.ListN.{length, take, drop}
 use Rattle.laws.proofs.Tests.{never}
 use Rattle.dialogue.specs.declared.reading.Next.{Next}
-use Rattle.dialogue.specs.declared.reading.Next.TheVariants as Next
 use Rattle.dialogue.specs.declared.reading.Listed.{Listed}
-use Rattle.dialogue.specs.declared.reading.Listed.TheVariants as Listed
 use Rattle.dialogue.specs.Told.{as_listed}
 use Rattle.dialogue.specs.Words.{signed_of}
 use Rattle.dialogue.specs.Lists.{after_list, list_from}
 use Rattle.exchange.specs.declared.requests.Counted.{Counted}
-use Rattle.exchange.specs.declared.requests.Counted.TheVariants as Counted
 use Rattle.exchange.specs.declared.requests.Lists.{Lists}
-use Rattle.exchange.specs.declared.requests.Lists.TheVariants as Lists
 use Rattle.exchange.specs.declared.requests.Head.{Head}
-use Rattle.exchange.specs.declared.requests.Head.TheVariants as Head
 use Rattle.exchange.specs.declared.requests.Fact.{Fact}
-use Rattle.exchange.specs.declared.requests.Fact.TheVariants as Fact
 use Rattle.exchange.specs.declared.requests.Asked.{Asked}
-use Rattle.exchange.specs.declared.requests.Asked.TheVariants as Asked
 use Rattle.exchange.specs.Requests.{number, number_at, from_next, from_counted, count_at, up_to, list_at, filled_at, lists_at, counts_at, head_at, turned_at, fact_at, from_fact, asked_at}
 
 -- ---- a count, by the number that was read

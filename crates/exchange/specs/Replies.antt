@@ -2,12 +2,9 @@
 use Rattle.std.specs.Prelude.{ℕ, zero, suc, cond, List, [], ◌∷◌, ◌++◌, map, eqb, length, ℤ}
 use Rattle.dialogue.specs.Written.{decimal, signed_decimal, led}
 use Rattle.meaning.specs.declared.Answer.{Answer}
-use Rattle.meaning.specs.declared.Answer.TheVariants as Answer
 use Rattle.meaning.specs.declared.Verdict.{Verdict}
-use Rattle.meaning.specs.declared.Verdict.TheVariants as Verdict
 use Rattle.meaning.specs.declared.Panel.{Panel}
 use Rattle.slider.specs.declared.SliderAnswer.{SliderAnswer}
-use Rattle.slider.specs.declared.SliderAnswer.TheVariants as SliderAnswer
 
 -- a space and a number
 abbrev pub next : ℕ → List ℕ

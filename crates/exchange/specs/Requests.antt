@@ -3,24 +3,16 @@
 use Rattle.std.specs.Prelude.{ℕ, cond, List, ◌++◌, leb, eqb, ℤ, length, take, drop}
 use Rattle.std.proofs.Math.Option.{Option}
 use Rattle.dialogue.specs.declared.reading.Next.{Next}
-use Rattle.dialogue.specs.declared.reading.Next.TheVariants as Next
 use Rattle.dialogue.specs.declared.reading.NextSigned.{NextSigned}
-use Rattle.dialogue.specs.declared.reading.NextSigned.TheVariants as NextSigned
 use Rattle.dialogue.specs.declared.reading.Listed.{Listed}
-use Rattle.dialogue.specs.declared.reading.Listed.TheVariants as Listed
 use Rattle.dialogue.specs.Told.{as_next, as_next_signed, as_listed}
 use Rattle.dialogue.specs.Words.{word_at, after_word, unsigned_of, signed_of}
 use Rattle.dialogue.specs.Lists.{after_list, list_from}
 use Rattle.exchange.specs.declared.requests.Counted.{Counted}
-use Rattle.exchange.specs.declared.requests.Counted.TheVariants as Counted
 use Rattle.exchange.specs.declared.requests.Lists.{Lists}
-use Rattle.exchange.specs.declared.requests.Lists.TheVariants as Lists
 use Rattle.exchange.specs.declared.requests.Head.{Head}
-use Rattle.exchange.specs.declared.requests.Head.TheVariants as Head
 use Rattle.exchange.specs.declared.requests.Fact.{Fact}
-use Rattle.exchange.specs.declared.requests.Fact.TheVariants as Fact
 use Rattle.exchange.specs.declared.requests.Asked.{Asked}
-use Rattle.exchange.specs.declared.requests.Asked.TheVariants as Asked
 
 -- an unsigned 32-bit number
 abbrev pub number : List ℕ → Option ℕ

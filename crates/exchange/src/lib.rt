@@ -1,5 +1,6 @@
 // The exchange of lines: the parts of a request read into lent memory, and replies written into a lent buffer.
 #![tactic(auto)]
+
 mod replies;
 mod requests;
 

@@ -7,7 +7,7 @@ use native.Mathlib.Omega.{arith}
 use lib.ListN.{length, set, length-set, take, drop, length-drop}
 use lib.Seq.{take_all}
 use Rattle.lent.proofs.Writing.{put-before}
-use Rattle.problem.specs.Arcs.{Net, at, arc, Arc}
+use Rattle.problem.specs.Arcs.{Net, arc, Arc}
 use Rattle.problem.proofs.Knowing.{known_more}
 use Rattle.facts.specs.Tests.{Within, Tests}
 

@@ -1,6 +1,7 @@
 // The test of a set of facts, by rounds from an extra source (001): whether they are sound, and the latest timetable.
 // Arcs come in three slices by their numbers, facts as arc numbers; times are minutes before closing.
 #![tactic(auto)]
+
 pub mod rounds;
 
 ghost use Rattle.std.specs.Prelude.{ℕ, ◌≤◌, ◌∷◌, map, drop};

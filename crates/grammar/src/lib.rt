@@ -1,5 +1,6 @@
 // The subset of SMT-LIB 2 that is read, as a grammar over bytes (specs), and the automaton that goes along a text by it.
 #![tactic(auto)]
+
 mod automaton;
 mod pieces;
 

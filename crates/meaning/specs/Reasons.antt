@@ -1,5 +1,5 @@
 -- The list of reasons: its rows as bytes, and what a reading of them is: 01, "The list of reasons". A row is W bytes. Definitions only.
-use Rattle.std.specs.Prelude.{Bool, true, false, cond, ◌&&◌, List, [], ◌∷◌, ℕ, zero, suc, ◌+◌, ◌-◌, ◌*◌, ◌/◌, leb, ltb, eqb, ℤ, pos, ◌+ℤ◌, length, get_or, take, drop, replicate}
+use Rattle.std.specs.Prelude.{Bool, true, false, cond, ◌&&◌, List, [], ◌∷◌, ℕ, zero, suc, ◌-◌, ◌*◌, ◌/◌, leb, ltb, eqb, ℤ, pos, ◌+ℤ◌, length, get_or, take, drop, replicate}
 use Rattle.std.proofs.Math.Option.{Option, some, none}
 use Rattle.std.specs.Int.Signed.{lt_z}
 use Rattle.meaning.specs.Limits.{most_alternatives, onward_mark, dead_mark, blank_byte}

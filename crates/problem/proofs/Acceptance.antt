@@ -9,7 +9,7 @@ use lib.Seq.{drop-cons, ext_get_or}
 use Rattle.meaning.specs.Limits.{most_clauses, most_in_clause, most_alternatives, most_bound, opposite_from}
 use Rattle.meaning.specs.Problem.{Alternative, opposite}
 use Rattle.meaning.specs.Plain.{nowhere}
-use Rattle.meaning.specs.Screen.{Lent, alternatives, clauses_of, events, bounds}
+use Rattle.meaning.specs.Screen.{Lent, alternatives, clauses_of}
 use Rattle.meaning.proofs.Accepted.{Passes, parted-length, alternatives-count}
 use Rattle.problem.specs.Arcs.{Net, at, bias, head, tail, bound, arc, Arc, arcs_from}
 use Rattle.problem.specs.Laid.{arcs, clauses_in, Laid}

@@ -1,5 +1,6 @@
 // From lent slices to a checked problem by value in the numbers that the tests use, or the refusal's number with an empty problem.
 #![tactic(auto)]
+
 ghost use Rattle.std.specs.Prelude.{◌≡◌, ◌∷◌, ℕ, suc, ◌*◌, ◌<◌, ◌≤◌, ◌%◌, ℤ, pos, nat_abs, length, get_or};
 ghost use Rattle.meaning.specs.Limits.{most_events, most_clauses, most_alternatives};
 ghost use Rattle.meaning.specs.Screen.{stepped, events, bounds, is_event, are_events, are_apart, is_bound, problem_refusal};

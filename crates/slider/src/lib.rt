@@ -1,6 +1,7 @@
 // A slider gives a bound: its kind's calibration numbers and its position, in binary32, become a whole number or a refusal.
 // The arithmetic is binary32's, each operation rounded once; the whole number is read off the bits.
 #![tactic(auto)]
+
 ghost use Rattle.std.specs.Prelude.{◌≡◌, ◌≤◌, ◌<◌, ◌^◌};
 ghost use Rattle.slider.specs.Readings.{signed, reading, within, end_of, work_of, position_of};
 ghost use Rattle.slider.specs.Slider.{bound_limit, told, fixed_gives, span_gives, rate_gives, slider_gives};

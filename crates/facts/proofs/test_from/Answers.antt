@@ -1,6 +1,5 @@
 -- `test_from` answers as its rounds do: whether the last one raised no event, and the times before it. Assumes nothing.
 use native.Mathlib.Omega.{arith}
-use borrow.Author.Rules.{rules}
 use Rattle.facts.proofs.Deciding.{tests-from}
 use Rattle.facts.proofs.test_from.Goals as goal
 

@@ -1,8 +1,6 @@
 -- `test_with` tests one fact more: the arc is stored before the facts. Assumes nothing.
 use Prim.Native.Nat.{◌-◌}
 use native.Mathlib.Omega.{arith}
-use borrow.Author.Rules.{rules}
-use lib.ListN.{length-set}
 use Rattle.problem.specs.Arcs.{net}
 use Rattle.facts.specs.Tests.{places}
 use Rattle.facts.proofs.Adding.{within-stored, tests-stored}

@@ -1,10 +1,7 @@
 -- `lent::fill_bytes` meets its contract. Assumes nothing.
-use mathlib.Core.Path.{◌≡◌, sym}
-use mathlib.Core.List.{◌++◌}
-use Prim.Native.Nat.{◌≤◌, ◌-◌}
+use mathlib.Core.Path.{sym}
 use native.Mathlib.Omega.{arith}
-use borrow.Author.Rules.{rules}
-use lib.ListN.{length, replicate, take, drop, length-set, length-replicate, get_or-replicate}
+use lib.ListN.{length, replicate, length-set, length-replicate, get_or-replicate}
 use Rattle.lent.proofs.Writing.{write-more, written}
 use Rattle.lent.proofs.fill_bytes.Goals as goal
 

@@ -1,11 +1,8 @@
 -- `lent::fill_bytes` meets its contract. Assumes nothing.
-use mathlib.Core.Path.{◌≡◌, sym}
+use mathlib.Core.Path.{◌≡◌}
 use mathlib.Core.List.{◌++◌}
 use Prim.Native.Nat.{◌≤◌, ◌-◌}
-use native.Mathlib.Omega.{arith}
-use borrow.Author.Rules.{rules}
-use lib.ListN.{length, replicate, take, drop, length-set, length-replicate, get_or-replicate}
-use Rattle.lent.proofs.Writing.{write-more, written}
+use lib.ListN.{length, replicate, take, drop}
 use Rattle.lent.proofs.fill_bytes.Given as goal
 
 abbrev pub invariant-loop-k : goal.invariant-loop-k

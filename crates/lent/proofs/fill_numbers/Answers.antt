@@ -1,14 +1,11 @@
 -- `lent::fill_numbers` meets its contract. Assumes nothing.
-use mathlib.Core.Path.{◌≡◌, sym, ap, ◌∙◌}
-use mathlib.Core.List.{◌++◌}
-use Prim.Native.Nat.{◌≤◌, ◌-◌}
+use mathlib.Core.Path.{sym, ap, ◌∙◌}
 use native.Mathlib.Omega.{arith}
-use borrow.Author.Rules.{rules}
 use mir.Syntax.{w32}
 use mir.Val.{to_z, of_z}
 use mir.Facts.{to_z-of_z}
 use lib.IntN.{ℤ, pos}
-use lib.ListN.{length, replicate, take, drop, length-set, length-replicate, get_or-replicate}
+use lib.ListN.{length, replicate, length-set, length-replicate, get_or-replicate}
 use Rattle.lent.proofs.Writing.{write-more, written}
 use Rattle.lent.proofs.fill_numbers.Goals as goal
 

@@ -1,15 +1,8 @@
 -- `lent::fill_numbers` meets its contract. Assumes nothing.
-use mathlib.Core.Path.{◌≡◌, sym, ap, ◌∙◌}
+use mathlib.Core.Path.{◌≡◌}
 use mathlib.Core.List.{◌++◌}
 use Prim.Native.Nat.{◌≤◌, ◌-◌}
-use native.Mathlib.Omega.{arith}
-use borrow.Author.Rules.{rules}
-use mir.Syntax.{w32}
-use mir.Val.{to_z, of_z}
-use mir.Facts.{to_z-of_z}
-use lib.IntN.{ℤ, pos}
-use lib.ListN.{length, replicate, take, drop, length-set, length-replicate, get_or-replicate}
-use Rattle.lent.proofs.Writing.{write-more, written}
+use lib.ListN.{length, replicate, take, drop}
 use Rattle.lent.proofs.fill_numbers.Given as goal
 
 abbrev pub invariant-loop-i : goal.invariant-loop-i

@@ -5,7 +5,6 @@ use mir.Syntax.{w32}
 use mir.Facts.{to_z-of_z, to_z_pos}
 use lib.IntN.{nat_abs}
 use Rattle.lent.proofs.Signed.{back, sfits_pos}
-use borrow.Author.Rules.{rules}
 use Rattle.lent.proofs.lifted.Goals as goal
 
 pub overflow_add-result : goal.overflow_add-result

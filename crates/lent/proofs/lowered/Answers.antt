@@ -4,7 +4,6 @@ use native.Mathlib.Omega.{arith}
 use mir.Syntax.{w32}
 use mir.Facts.{to_z-of_z, to_z_pos}
 use Rattle.laws.proofs.Differences.{sub_is}
-use borrow.Author.Rules.{rules}
 use Rattle.lent.proofs.Signed.{mag-below}
 use Rattle.lent.proofs.lowered.Goals as goal
 

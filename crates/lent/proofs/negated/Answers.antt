@@ -5,7 +5,6 @@ use lib.IntN.{pos, neg_ℤ, +ℤ_idl}
 use mir.Syntax.{w32}
 use mir.Facts.{to_z-of_z, to_z_pos}
 use Rattle.lent.proofs.Signed.{mag-minus}
-use borrow.Author.Rules.{rules}
 use Rattle.lent.proofs.negated.Goals as goal
 
 pub overflow_sub-result : goal.overflow_sub-result

@@ -1,11 +1,9 @@
 -- `lent::put_bytes` meets its contract. Assumes nothing.
 use mathlib.Core.Path.{◌≡◌, refl, ◌∙◌}
 use mathlib.Core.List.{append_assoc}
-use Prim.Native.Nat.{◌≤◌, ◌-◌}
 use native.Mathlib.Omega.{arith}
-use borrow.Author.Rules.{rules}
 use lib.ListN.{length, take, length-set}
-use lib.Seq.{paste, paste-zero, take_all}
+use lib.Seq.{paste-zero, take_all}
 use Rattle.lent.proofs.Writing.{copy_more}
 use Rattle.lent.proofs.put_bytes.Goals as goal
 

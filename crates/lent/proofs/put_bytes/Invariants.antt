@@ -1,12 +1,8 @@
 -- `lent::put_bytes` meets its contract. Assumes nothing.
-use mathlib.Core.Path.{◌≡◌, refl, ◌∙◌}
-use mathlib.Core.List.{append_assoc}
+use mathlib.Core.Path.{◌≡◌}
 use Prim.Native.Nat.{◌≤◌, ◌-◌}
-use native.Mathlib.Omega.{arith}
-use borrow.Author.Rules.{rules}
-use lib.ListN.{length, take, length-set}
-use lib.Seq.{paste, paste-zero, take_all}
-use Rattle.lent.proofs.Writing.{copy_more}
+use lib.ListN.{length}
+use lib.Seq.{paste}
 use Rattle.lent.proofs.put_bytes.Given as goal
 
 abbrev pub invariant-loop-i : goal.invariant-loop-i

@@ -1,16 +1,9 @@
 -- `lent::put_negated` meets its contract. Assumes nothing.
-use mathlib.Core.Path.{◌≡◌, refl, sym, ◌∙◌}
+use mathlib.Core.Path.{◌≡◌}
 use mathlib.Core.List.{◌++◌, map}
 use Prim.Native.Nat.{ℕ, ◌≤◌, ◌-◌}
-use native.Mathlib.Omega.{arith}
-use borrow.Author.Rules.{rules}
-use mir.Syntax.{w32}
-use mir.Val.{to_z, of_z}
-use mir.Facts.{to_z-of_z}
 use lib.IntN.{ℤ, pos, neg_ℤ}
-use lib.ListN.{length, get_or, take, drop, length-set, length-map, get_or-map}
-use lib.Seq.{take_all}
-use Rattle.lent.proofs.Writing.{write-more}
+use lib.ListN.{length, take, drop}
 use Rattle.lent.proofs.put_negated.Given as goal
 
 abbrev pub minus : ℕ → ℤ

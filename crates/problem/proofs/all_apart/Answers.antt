@@ -1,13 +1,12 @@
 -- `problem::all_apart` meets its contract. Assumes nothing.
-use mathlib.Core.Path.{◌≡◌, refl, sym, ap, ◌∙◌}
-use Prim.Native.Nat.{◌≤◌, ◌-◌, ◌+◌, ◌%◌}
+use mathlib.Core.Path.{refl, sym, ap, ◌∙◌}
+use Prim.Native.Nat.{◌+◌}
 use native.Mathlib.Omega.{arith}
-use borrow.Author.Rules.{rules}
-use lib.IntN.{ℤ, pos}
-use lib.ListN.{length, get_or, drop}
+use lib.IntN.{pos}
+use lib.ListN.{get_or}
 use mir.Syntax.{w32}
 use mir.Val.{of_z, to_z}
-use Rattle.meaning.specs.Screen.{events, are_apart}
+use Rattle.meaning.specs.Screen.{are_apart}
 use Rattle.lent.proofs.Signed.{element}
 use Rattle.problem.proofs.Ranges.{same-not-apart, other-apart}
 use Rattle.problem.proofs.Triples.{events-step, events-end}

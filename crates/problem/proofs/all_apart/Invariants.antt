@@ -1,16 +1,8 @@
 -- `problem::all_apart` meets its contract. Assumes nothing.
-use mathlib.Core.Path.{◌≡◌, refl, sym, ap, ◌∙◌}
-use Prim.Native.Nat.{◌≤◌, ◌-◌, ◌+◌, ◌%◌}
-use native.Mathlib.Omega.{arith}
-use borrow.Author.Rules.{rules}
-use lib.IntN.{ℤ, pos}
-use lib.ListN.{length, get_or, drop}
-use mir.Syntax.{w32}
-use mir.Val.{of_z, to_z}
+use mathlib.Core.Path.{◌≡◌}
+use Prim.Native.Nat.{◌≤◌, ◌-◌, ◌%◌}
+use lib.ListN.{length, drop}
 use Rattle.meaning.specs.Screen.{events, are_apart}
-use Rattle.lent.proofs.Signed.{element}
-use Rattle.problem.proofs.Ranges.{same-not-apart, other-apart}
-use Rattle.problem.proofs.Triples.{events-step, events-end}
 use Rattle.problem.proofs.all_apart.Given as goal
 
 abbrev pub invariant-loop-at : goal.invariant-loop-at

@@ -1,14 +1,8 @@
 -- `problem::all_bounds` meets its contract. Assumes nothing.
-use mathlib.Core.Path.{◌≡◌, refl, sym, ap, ◌∙◌}
-use Prim.Native.Nat.{◌≤◌, ◌-◌, ◌+◌, ◌%◌}
-use native.Mathlib.Omega.{arith}
-use borrow.Author.Rules.{rules}
-use lib.IntN.{pos}
-use lib.ListN.{length, get_or, drop}
-use borrow.Author.Tests.{not-true, not-false}
+use mathlib.Core.Path.{◌≡◌}
+use Prim.Native.Nat.{◌≤◌, ◌-◌, ◌%◌}
+use lib.ListN.{length, drop}
 use Rattle.meaning.specs.Screen.{bounds, is_bound}
-use Rattle.lent.proofs.Signed.{element}
-use Rattle.problem.proofs.Triples.{bounds-step, bounds-end}
 use Rattle.problem.proofs.all_bounds.Given as goal
 
 abbrev pub invariant-loop-i : goal.invariant-loop-i

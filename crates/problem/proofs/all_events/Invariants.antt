@@ -1,14 +1,8 @@
 -- `problem::all_events` meets its contract. Assumes nothing.
-use mathlib.Core.Path.{◌≡◌, refl, sym, ap, ◌∙◌}
-use Prim.Native.Nat.{◌≤◌, ◌-◌, ◌+◌, ◌%◌}
-use native.Mathlib.Omega.{arith}
-use borrow.Author.Rules.{rules}
-use lib.IntN.{pos}
-use lib.ListN.{length, get_or, drop}
-use borrow.Author.Tests.{not-true, not-false}
-use Rattle.meaning.specs.Screen.{events, is_event, are_events}
-use Rattle.lent.proofs.Signed.{element}
-use Rattle.problem.proofs.Triples.{events-step, events-end}
+use mathlib.Core.Path.{◌≡◌}
+use Prim.Native.Nat.{◌≤◌, ◌-◌, ◌%◌}
+use lib.ListN.{length, drop}
+use Rattle.meaning.specs.Screen.{events, are_events}
 use Rattle.problem.proofs.all_events.Given as goal
 
 abbrev pub invariant-loop-i : goal.invariant-loop-i

@@ -1,11 +1,10 @@
 -- `problem::check` meets its contract. Assumes nothing.
 use mathlib.Core.Path.{◌≡◌, sym, subst, ◌∙◌}
-use Rattle.meaning.specs.Screen.{Lent, problem_refusal}
+use Rattle.meaning.specs.Screen.{problem_refusal}
 use Rattle.meaning.proofs.Accepted.{Passes, passes}
 use Rattle.problem.specs.declared.Problem.{Problem}
 use Rattle.problem.specs.Reads.{given, Reads}
 use Rattle.problem.proofs.Acceptance.{loadable, counts-small, reads, assembled, taken, refused}
-use borrow.Author.Rules.{rules}
 use Rattle.problem.proofs.check.Goals as goal
 
 pub returns-then-number-ne0 : goal.returns-then-number-ne0
@@ -32,7 +31,7 @@ pub returns : goal.returns
 returns c =
     let accepted : problem_refusal (given c.args.n c.args.triples.now c.args.counts.now) ≡ 0 = (sym c.refusal-number.ensures ∙ c.if-number-ne0.false) in
     let passed : Passes (given c.args.n c.args.triples.now c.args.counts.now) = (passes (given c.args.n c.args.triples.now c.args.counts.now) accepted) in
-        let l = (given c.args.n c.args.triples.now c.args.counts.now) in
+    let l = (given c.args.n c.args.triples.now c.args.counts.now) in
     let is = assembled l _ _ _ _ c.starts_of-starts.ensures c.load-t.ensures in
     record {
       number_value = sym (accepted);

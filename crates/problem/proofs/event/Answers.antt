@@ -1,7 +1,6 @@
 -- `problem::event` meets its contract. Assumes nothing.
 use native.Mathlib.Omega.{arith}
 use mir.Facts.{to_z-of_z}
-use borrow.Author.Rules.{rules}
 use Rattle.problem.proofs.event.Goals as goal
 
 pub overflow_cast-result : goal.overflow_cast-result

@@ -1,7 +1,6 @@
 -- `problem::is_bound` meets its contract. Assumes nothing.
 use mir.Facts.{to_z-of_z}
 use Rattle.problem.proofs.Ranges.{bound-below, bound-from}
-use borrow.Author.Rules.{rules}
 use Rattle.problem.proofs.is_bound.Goals as goal
 
 pub returns-then-c : goal.returns-then-c

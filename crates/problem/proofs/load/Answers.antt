@@ -1,9 +1,7 @@
 -- `problem::load` meets its contract: after j turns the first j alternatives stand in the three tables. Assumes nothing.
 use mathlib.Core.Path.{◌≡◌, refl, sym, ap, ◌∙◌}
-use mathlib.Core.List.{List}
 use Prim.Native.Nat.{ℕ, ◌≤◌, ◌<◌, ◌-◌, ◌+◌, ◌*◌}
 use native.Mathlib.Omega.{arith}
-use borrow.Author.Rules.{rules}
 use lib.IntN.{ℤ, pos, nat_abs, ◌+ℤ◌}
 use lib.ListN.{length, get_or, length-set}
 use Rattle.meaning.specs.Limits.{most_bound, most_alternatives}
@@ -15,7 +13,7 @@ use Rattle.problem.specs.Arcs.{bias}
 use Rattle.problem.specs.Loaded.{biased}
 use Rattle.problem.proofs.Triples.{alternative_at, alternative-at, events-at, bounds-at}
 use Rattle.problem.proofs.Lifting.{lifts, lifts-opposite}
-use Rattle.problem.proofs.Tables.{Written, written_none, written-more, written_all}
+use Rattle.problem.proofs.Tables.{written_none, written-more, written_all}
 use Rattle.problem.proofs.load.Invariants.{first, second}
 use Rattle.problem.proofs.load.Goals as goal
 
@@ -56,7 +54,7 @@ loop-j-preserved c =
     let bound-is : c.lifted-b.result ≡ biased (alternative_at (c.args.triples.now) (c.loop-j.j)) = (c.lifted-b.ensures ∙ ap (λ (z : ℤ). nat_abs (z +ℤ pos bias)) (element (get_or (c.args.triples.now) ((c.loop-j.j) * 3 + 2) (pos 0)) c.lifted-arg-1.given)) in
     let within : nat_abs (alternative_at (c.args.triples.now) (c.loop-j.j)).c ≤ most_bound = (bounds-at (c.args.triples.now) c.requires.bounds (c.loop-j.j) (omega arith)) in
     let turned-is : 2 * most_bound + 1 - c.lifted-b.result ≡ biased (opposite (alternative_at (c.args.triples.now) (c.loop-j.j))) = (ap (λ (k : ℕ). 2 * most_bound + 1 - k) bound-is ∙ sym (ap nat_abs (lifts-opposite (alternative_at (c.args.triples.now) (c.loop-j.j)).c within))) in
-        let ts = (c.args.triples.now) in
+    let ts = (c.args.triples.now) in
     let j = (c.loop-j.j) in
     let few : length (alternatives 0 ts) ≤ most_alternatives = omega (arith, alternatives-count 0 ts) in
     let h : j < length (alternatives 0 ts) = omega (arith, alternatives-count 0 ts) in

@@ -3,7 +3,6 @@ use mathlib.Core.Path.{◌≡◌, refl, ap, ◌∙◌}
 use mathlib.Core.List.{List, ◌∷◌, ◌++◌}
 use Prim.Native.Nat.{ℕ, suc, ◌≤◌, ◌<◌, ◌-◌, ◌+◌}
 use native.Mathlib.Omega.{arith}
-use borrow.Author.Rules.{rules}
 use lib.ListN.{length, get_or, take, drop, replicate, length-set, set}
 use lib.Seq.{take_all}
 use Rattle.meaning.specs.Limits.{most_clauses}
@@ -27,7 +26,7 @@ pub loop-k-init : goal.loop-k-init
 loop-k-init c = (omega arith, (refl, refl))
 
 pub overflow_cast-starts : goal.overflow_cast-starts
-overflow_cast-starts c =     omega (arith, c.requires.1 c.loop-k.k (omega arith))
+overflow_cast-starts c = omega (arith, c.requires.1 c.loop-k.k (omega arith))
 
 pub loop-k-preserved : goal.loop-k-preserved
 loop-k-preserved c =
@@ -38,4 +37,4 @@ loop-k-preserved c =
     (omega arith, (simp length-set (omega arith), more k c.loop-k.starts counts c.loop-k.invariant.1.1 h few))
 
 pub returns : goal.returns
-returns c =     all-written c.loop-k.k c.loop-k.starts c.args.counts.now c.loop-k.invariant.1.1 (omega arith)
+returns c = all-written c.loop-k.k c.loop-k.starts c.args.counts.now c.loop-k.invariant.1.1 (omega arith)

@@ -1,15 +1,9 @@
 -- `problem::starts_of` meets its contract: after k turns 0 and the first k counts stand in it. Assumes nothing.
-use mathlib.Core.Path.{◌≡◌, refl, ap, ◌∙◌}
-use mathlib.Core.List.{List, ◌∷◌, ◌++◌}
-use Prim.Native.Nat.{ℕ, suc, ◌≤◌, ◌<◌, ◌-◌, ◌+◌}
-use native.Mathlib.Omega.{arith}
-use borrow.Author.Rules.{rules}
-use lib.ListN.{length, get_or, take, drop, replicate, length-set, set}
-use lib.Seq.{take_all}
+use mathlib.Core.Path.{◌≡◌}
+use mathlib.Core.List.{◌∷◌, ◌++◌}
+use Prim.Native.Nat.{suc, ◌≤◌, ◌-◌}
+use lib.ListN.{length, take, drop, replicate}
 use Rattle.meaning.specs.Limits.{most_clauses}
-use Rattle.laws.proofs.Lists.{drop-replicate}
-use Rattle.lent.proofs.Writing.{write-more}
-use Rattle.problem.specs.Loaded.{placed}
 use Rattle.problem.proofs.starts_of.Given as goal
 
 abbrev pub invariant-loop-k : goal.invariant-loop-k

@@ -1,17 +1,12 @@
 -- `problem::steps` meets its contract. Assumes nothing.
-use mathlib.Core.Path.{◌≡◌, refl, sym, ◌∙◌}
-use Prim.Native.Nat.{◌≤◌, ◌<◌, ◌-◌, ◌+◌}
+use mathlib.Core.Path.{refl, sym, ◌∙◌}
+use Prim.Native.Nat.{◌≤◌, ◌<◌, ◌+◌}
 use native.Mathlib.Omega.{arith}
-use borrow.Author.Rules.{rules}
-use lib.ListN.{length, get_or, drop}
+use lib.ListN.{length, get_or}
 use borrow.Author.Tests.{lt-leb, le-leb}
 use Rattle.meaning.specs.Limits.{most_in_clause}
-use Rattle.meaning.specs.Screen.{stepped}
 use Rattle.problem.proofs.Counts.{stepped-step, stepped-end}
 use Rattle.problem.proofs.steps.Goals as goal
-
-pub overflow_cast-e : goal.overflow_cast-e
-overflow_cast-e c = omega (arith, c.type_inv.counts c.loop-k.k)
 
 pub returns-then-e-from : goal.returns-then-e-from
 returns-then-e-from c =

@@ -1,13 +1,8 @@
 -- `problem::steps` meets its contract. Assumes nothing.
-use mathlib.Core.Path.{◌≡◌, refl, sym, ◌∙◌}
-use Prim.Native.Nat.{◌≤◌, ◌<◌, ◌-◌, ◌+◌}
-use native.Mathlib.Omega.{arith}
-use borrow.Author.Rules.{rules}
-use lib.ListN.{length, get_or, drop}
-use borrow.Author.Tests.{lt-leb, le-leb}
-use Rattle.meaning.specs.Limits.{most_in_clause}
+use mathlib.Core.Path.{◌≡◌}
+use Prim.Native.Nat.{◌≤◌, ◌-◌}
+use lib.ListN.{length, drop}
 use Rattle.meaning.specs.Screen.{stepped}
-use Rattle.problem.proofs.Counts.{stepped-step, stepped-end}
 use Rattle.problem.proofs.steps.Given as goal
 
 abbrev pub invariant-loop-k : goal.invariant-loop-k

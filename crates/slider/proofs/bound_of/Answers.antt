@@ -1,5 +1,4 @@
 -- `slider::bound_of` meets its contract. Assumes nothing.
-use borrow.Author.Rules.{rules}
 use mathlib.Core.Path.{sym, ap, ◌∙◌, subst}
 use mathlib.Core.Bool.{Bool}
 use Prim.Native.Nat.{◌≤◌}
@@ -10,7 +9,7 @@ use Rattle.slider.proofs.Bounds.{parts_give, split-gives, not-finite-unread, who
 use Rattle.slider.proofs.bound_of.Goals as goal
 
 pub limited-requires : goal.limited-requires
-limited-requires c =     subst (λ (p : Split). p.whole ≤ cap) (sym c.parts-p.ensures) (whole_le 0 c.args.v)
+limited-requires c = subst (λ (p : Split). p.whole ≤ cap) (sym c.parts-p.ensures) (whole_le 0 c.args.v)
 
 pub returns-then-p : goal.returns-then-p
 returns-then-p c =

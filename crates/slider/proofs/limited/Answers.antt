@@ -1,9 +1,8 @@
 -- `slider::limited` meets its contract. Assumes nothing.
-use borrow.Author.Rules.{rules}
 use mathlib.Core.Path.{◌≡◌, sym, ap, ◌∙◌, subst}
-use mathlib.Core.Logic.{⊎_elim}
 use mathlib.Core.Bool.{Bool, true, false}
 use Prim.Native.Nat.{ℕ, ◌+◌, ◌≤◌, ◌<◌}
+use native.Mathlib.Omega.{arith}
 use lib.IntN.{ℤ}
 use mir.Syntax.{w32}
 use mir.Val.{to_z, of_z}
@@ -32,7 +31,8 @@ returns c =
     let size_is : c.if-more.n ≡ size_of c.args.more c.args.whole = elim c.if-more.branch [ then-more w ↦ w.n-is ∙ by true w.if-more.true | else-more w ↦ w.n-is ∙ by false w.if-more.false ] in
     let a = c.args in
     let n = size_of a.more a.whole in
-    let near : n ≤ bound_limit = subst (λ (k : ℕ). k ≤ bound_limit) size_is c.if-n-gt-BOUND_LIMIT.false in
+    let small : c.if-more.n ≤ bound_limit = omega arith in
+    let near : n ≤ bound_limit = subst (λ (k : ℕ). k ≤ bound_limit) size_is small in
     ap Bound
     (ap (λ (z : ℤ). to_z w32 (of_z w32 z)) (c.signed_of.ensures ∙ ap (signed a.neg) size_is)
     ∙ near_word (signed a.neg n) (signed-near a.neg n near))

@@ -1,5 +1,4 @@
 -- `slider::span` meets its contract. Assumes nothing.
-use borrow.Author.Rules.{rules}
 use mathlib.Core.Path.{sym, ap, ◌∙◌}
 use Rattle.slider.specs.Readings.{end_of, position_of}
 use Rattle.slider.specs.Slider.{told}

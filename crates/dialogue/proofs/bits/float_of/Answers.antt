@@ -1,7 +1,5 @@
 -- `float_of` meets its contract: the patterns that are a NaN's are told apart by the tests. Assumes nothing.
 use mathlib.Core.Path.{◌∙◌, sym}
-use mathlib.Core.Logic.{⊎_elim}
-use borrow.Author.Rules.{rules}
 use Rattle.dialogue.proofs.Patterns.{of_nan, field_below, no_digit, zero_by_zero}
 use Rattle.dialogue.proofs.bits.float_of.Goals as goal
 use Rattle.dialogue.proofs.bits.float_of.Goals.{then-bits-eq-ONES+else-bits-gt0, else-bits-eq-ONES}
@@ -13,5 +11,6 @@ pub float_from_bits-result : goal.float_from_bits-result
 float_from_bits-result c =
     let b = c.args.bits in
     elim c.if-bits-eq-ONES.branch [
-      then-bits-eq-ONES+else-bits-gt0 w ↦ no_digit b w.if-bits-eq-ONES.true w.if-bits-gt0.false
-    | else-bits-eq-ONES w ↦ field_below b w.if-bits-eq-ONES.false ]
+      | then-bits-eq-ONES+else-bits-gt0 w ↦ no_digit b w.if-bits-eq-ONES.true w.if-bits-gt0.false
+      | else-bits-eq-ONES w ↦ field_below b w.if-bits-eq-ONES.false
+    ]

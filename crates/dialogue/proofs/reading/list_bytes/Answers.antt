@@ -1,12 +1,8 @@
 -- `list_bytes` meets its contract: reading what remains into what is left gives the same memory and place. Assumes nothing.
-use Prim.Native.Nat.{◌≤◌, ◌-◌}
-use mathlib.Core.Path.{◌≡◌, refl, sym, ap, ◌∙◌}
-use mathlib.Core.List.{◌++◌}
+use mathlib.Core.Path.{refl, sym, ap, ◌∙◌}
 use native.Mathlib.Omega.{arith}
-use borrow.Author.Rules.{rules}
-use lib.ListN.{length, take, drop, length-set}
+use lib.ListN.{length-set}
 use Rattle.dialogue.specs.Words.{unsigned_of, word_at, after_word}
-use Rattle.dialogue.specs.Lists.{after_list, list_from}
 use Rattle.dialogue.specs.Told.{as_listed}
 use Rattle.dialogue.proofs.Listing.{after-end, list-end, after_none, list-none, after_more, list-more}
 use Rattle.dialogue.proofs.Telling.{next-some, next-none}

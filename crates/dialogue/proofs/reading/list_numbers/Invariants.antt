@@ -1,19 +1,14 @@
 -- `list_numbers` meets its contract: reading what remains into what is left gives the same memory and place. Assumes nothing.
 use Prim.Native.Nat.{◌≤◌, ◌-◌}
-use mathlib.Core.Path.{◌≡◌, refl, sym, ap, ◌∙◌}
+use mathlib.Core.Path.{◌≡◌}
 use mathlib.Core.List.{◌++◌}
-use native.Mathlib.Omega.{arith}
-use borrow.Author.Rules.{rules}
-use lib.ListN.{length, take, drop, length-set}
-use Rattle.dialogue.specs.Words.{unsigned_of, word_at, after_word}
+use lib.ListN.{length, take, drop}
+use Rattle.dialogue.specs.Words.{unsigned_of}
 use Rattle.dialogue.specs.Lists.{after_list, list_from}
-use Rattle.dialogue.specs.Told.{as_listed}
-use Rattle.dialogue.proofs.Listing.{after-end, list-end, after_none, list-none, after_more, list-more}
-use Rattle.dialogue.proofs.Telling.{next-some, next-none}
 use Rattle.dialogue.proofs.reading.list_numbers.Given as goal
 
 abbrev pub invariant-loop-i : goal.invariant-loop-i
-invariant-loop-i l = 
+invariant-loop-i l =
     (l.i ≤ length l.initial.out) ×
     ((length l.out ≡ length l.initial.out) ×
     ((after_list (unsigned_of 0xffffffff) l.line l.at l.initial.out ≡ after_list (unsigned_of 0xffffffff) l.line l.to (drop l.i l.out)) × (list_from (unsigned_of 0xffffffff) l.line l.at l.initial.out ≡ take l.i l.out ++ list_from (unsigned_of 0xffffffff) l.line l.to (drop l.i l.out))))

@@ -1,16 +1,13 @@
 -- `list_signed` meets its contract: reading what remains into what is left gives the same memory and place. Assumes nothing.
-use Prim.Native.Nat.{◌≤◌, ◌-◌}
-use mathlib.Core.Path.{◌≡◌, refl, sym, ap, ◌∙◌}
-use mathlib.Core.List.{◌++◌}
+use mathlib.Core.Path.{refl, sym, ap, ◌∙◌}
 use native.Mathlib.Omega.{arith}
 use borrow.Author.Rules.{rules}
-use lib.ListN.{length, take, drop, length-set}
+use lib.ListN.{length-set}
 use lib.IntN.{pos}
 use mir.Syntax.{w32}
 use mir.Val.{SFits}
 use mir.Facts.{to_z-of_z}
 use Rattle.dialogue.specs.Words.{signed_of, word_at, after_word}
-use Rattle.dialogue.specs.Lists.{after_list, list_from}
 use Rattle.dialogue.specs.Told.{as_listed}
 use Rattle.dialogue.proofs.Listing.{after-end, list-end, after_none, list-none, after_more, list-more}
 use Rattle.dialogue.proofs.Telling.{next-signed-some, next-signed-none}

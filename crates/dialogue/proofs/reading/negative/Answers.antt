@@ -1,6 +1,5 @@
 -- `negative` meets its contract. Assumes nothing.
 use native.Mathlib.Omega.{arith}
-use borrow.Author.Rules.{rules}
 use mir.Syntax.{w32, w64}
 use mir.Facts.{to_z_pos, to_z-of_z}
 use Rattle.dialogue.proofs.Signs.{minus-fits, zero_minus}

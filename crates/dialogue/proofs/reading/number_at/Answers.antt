@@ -2,7 +2,6 @@
 use mathlib.Core.Path.{◌≡◌}
 use mathlib.Core.Option.{none, some}
 use native.Mathlib.Omega.{arith}
-use borrow.Author.Rules.{rules}
 use Rattle.dialogue.specs.Words.{unsigned_of}
 use Rattle.dialogue.proofs.Spelling.{unsigned-full, word_fits}
 use Rattle.dialogue.proofs.Telling.{number-some, number-none}

@@ -1,10 +1,8 @@
 -- `signed_of` meets its contract: the first byte says which of the two unsigned numbers was read. Assumes nothing.
 use Prim.Native.Nat.{◌-◌}
 use mathlib.Core.Path.{◌≡◌}
-use mathlib.Core.Logic.{⊎_elim}
 use mathlib.Core.Option.{none, some}
 use native.Mathlib.Omega.{arith}
-use borrow.Author.Rules.{rules}
 use lib.ListN.{length, take, drop, get_or-eq_default}
 use lib.IntN.{pos, neg_ℤ}
 use mir.Syntax.{w32}

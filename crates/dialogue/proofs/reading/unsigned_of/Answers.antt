@@ -1,10 +1,8 @@
 -- `unsigned_of` meets its contract: the digits that remain, begun from the value so far, give the same answer. Assumes nothing.
-use Prim.Native.Nat.{◌≤◌, ◌-◌}
 use mathlib.Core.Path.{◌≡◌, sym, ap, ◌∙◌}
 use mathlib.Core.List.{[]}
 use native.Mathlib.Omega.{arith}
-use borrow.Author.Rules.{rules}
-use lib.ListN.{length, drop, drop_of_length-le}
+use lib.ListN.{drop_of_length-le}
 use Rattle.dialogue.specs.Words.{unsigned_of, digits_from}
 use Rattle.dialogue.specs.Told.{as_number}
 use Rattle.dialogue.proofs.Spelling.{number-end, number-low, number-high, number_more, number-over, unsigned-none, unsigned-some}

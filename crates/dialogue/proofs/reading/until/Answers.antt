@@ -1,9 +1,6 @@
 -- `until` meets its contract: the place looked for stays the same while no `stop` has come. Assumes nothing.
-use Prim.Native.Nat.{◌≤◌, ◌-◌, max}
-use mathlib.Core.Path.{◌≡◌, refl, sym, ◌∙◌}
+use mathlib.Core.Path.{refl, sym, ◌∙◌}
 use native.Mathlib.Omega.{arith}
-use lib.ListN.{length}
-use Rattle.dialogue.specs.Words.{place_of}
 use borrow.Author.Rules.{rules}
 use Rattle.dialogue.proofs.Spelling.{place_here, place-on, place_end}
 use Rattle.dialogue.proofs.reading.until.Goals as goal

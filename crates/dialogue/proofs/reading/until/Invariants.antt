@@ -1,11 +1,8 @@
 -- `until` meets its contract: the place looked for stays the same while no `stop` has come. Assumes nothing.
 use Prim.Native.Nat.{◌≤◌, ◌-◌, max}
-use mathlib.Core.Path.{◌≡◌, refl, sym, ◌∙◌}
-use native.Mathlib.Omega.{arith}
+use mathlib.Core.Path.{◌≡◌}
 use lib.ListN.{length}
 use Rattle.dialogue.specs.Words.{place_of}
-use borrow.Author.Rules.{rules}
-use Rattle.dialogue.proofs.Spelling.{place_here, place-on, place_end}
 use Rattle.dialogue.proofs.reading.until.Given as goal
 
 abbrev pub invariant-loop-i : goal.invariant-loop-i

@@ -1,7 +1,5 @@
 -- `word_at` meets its contract. Assumes nothing.
-use mathlib.Core.Logic.{⊎_elim}
 use native.Mathlib.Omega.{arith}
-use borrow.Author.Rules.{rules}
 use lib.ListN.{get_or-eq_default}
 use Rattle.dialogue.proofs.Spelling.{word-led, word_none}
 use Rattle.dialogue.proofs.reading.word_at.Goals as goal
@@ -15,5 +13,6 @@ returns c =
     let a = c.args in
     word_none a.line.now a.at
     (elim c.if-at-line.branch [
-      then-at-line+else-line-at-eq-SPACE w ↦ w.if-line-at-eq-SPACE.false
-    | else-at-line w ↦ (λ e. omega (arith, get_or-eq_default a.line.now 0 w.if-at-line.false)) ])
+      | then-at-line+else-line-at-eq-SPACE w ↦ w.if-line-at-eq-SPACE.false
+      | else-at-line w ↦ (λ e. omega (arith, get_or-eq_default a.line.now 0 w.if-at-line.false))
+    ])

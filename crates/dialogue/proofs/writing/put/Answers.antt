@@ -1,10 +1,7 @@
 -- `put` meets its contract: writing what remains of the text gives the same buffer. Assumes nothing.
-use Prim.Native.Nat.{◌≤◌, ◌-◌}
-use mathlib.Core.Path.{◌≡◌, refl, sym, ◌∙◌}
+use mathlib.Core.Path.{refl, sym, ◌∙◌}
 use native.Mathlib.Omega.{arith}
-use borrow.Author.Rules.{rules}
-use lib.ListN.{length, drop, length-set}
-use Rattle.dialogue.specs.Written.{written, written_to}
+use lib.ListN.{drop, length-set}
 use Rattle.dialogue.proofs.Buffers.{written-full, to-full, written_on, to-on, written-off, to-off}
 use Rattle.dialogue.proofs.writing.put.Goals as goal
 

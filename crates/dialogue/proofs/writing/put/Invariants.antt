@@ -1,11 +1,8 @@
 -- `put` meets its contract: writing what remains of the text gives the same buffer. Assumes nothing.
 use Prim.Native.Nat.{◌≤◌, ◌-◌}
-use mathlib.Core.Path.{◌≡◌, refl, sym, ◌∙◌}
-use native.Mathlib.Omega.{arith}
-use borrow.Author.Rules.{rules}
-use lib.ListN.{length, drop, length-set}
+use mathlib.Core.Path.{◌≡◌}
+use lib.ListN.{length, drop}
 use Rattle.dialogue.specs.Written.{written, written_to}
-use Rattle.dialogue.proofs.Buffers.{written-full, to-full, written_on, to-on, written-off, to-off}
 use Rattle.dialogue.proofs.writing.put.Given as goal
 
 abbrev pub invariant-loop-i : goal.invariant-loop-i

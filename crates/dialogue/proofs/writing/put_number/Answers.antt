@@ -1,7 +1,6 @@
 -- `put_number` meets its contract: the digits that the library makes are the number's. Assumes nothing.
 use mathlib.Core.Path.{◌≡◌, ◌∙◌}
 use native.Mathlib.Omega.{arith}
-use borrow.Author.Rules.{rules}
 use lib.ListN.{take}
 use Rattle.dialogue.specs.Written.{decimal}
 use Rattle.dialogue.proofs.Decimals.{digits_decimal, places-fit}

@@ -1,19 +1,13 @@
 -- `put_numbers` meets its contract: writing what remains of the list gives the same buffer. Assumes nothing.
-use Prim.Native.Nat.{◌≤◌, ◌-◌}
-use mathlib.Core.Path.{◌≡◌, refl, sym, ◌∙◌}
-use mathlib.Core.List.{map}
+use mathlib.Core.Path.{refl, sym, ◌∙◌}
 use native.Mathlib.Omega.{arith}
 use borrow.Author.Rules.{rules}
-use lib.ListN.{length, drop}
-use Rattle.dialogue.specs.Written.{written, written_to, led, decimal}
+use Rattle.dialogue.specs.Written.{decimal}
 use Rattle.dialogue.proofs.Buffers.{led-written, led-to, led-end, led-end-to}
 use Rattle.dialogue.proofs.writing.put_numbers.Goals as goal
 
 pub loop-i-init : goal.loop-i-init
 loop-i-init c = (omega arith, (refl, (refl, refl)))
-
-pub overflow_cast-list : goal.overflow_cast-list
-overflow_cast-list c = omega (arith, c.type_inv.list c.loop-i.i)
 
 pub loop-i-preserved : goal.loop-i-preserved
 loop-i-preserved c =

@@ -1,15 +1,13 @@
 -- `put_times` meets its contract: writing what remains of the list gives the same buffer. Assumes nothing.
-use Prim.Native.Nat.{◌≤◌, ◌-◌}
-use mathlib.Core.Path.{◌≡◌, refl, sym, ◌∙◌}
-use mathlib.Core.List.{map}
+use mathlib.Core.Path.{refl, sym, ◌∙◌}
 use native.Mathlib.Omega.{arith}
 use borrow.Author.Rules.{rules}
 use lib.IntN.{pos}
-use lib.ListN.{length, drop, get_or}
+use lib.ListN.{get_or}
 use mir.Syntax.{w32}
 use mir.Val.{SFits}
 use mir.Facts.{to_z-of_z}
-use Rattle.dialogue.specs.Written.{written, written_to, led, signed_decimal}
+use Rattle.dialogue.specs.Written.{signed_decimal}
 use Rattle.dialogue.proofs.Buffers.{led-written, led-to, led-end, led-end-to}
 use Rattle.dialogue.proofs.writing.put_times.Goals as goal
 

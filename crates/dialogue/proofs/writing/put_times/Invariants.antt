@@ -1,20 +1,13 @@
 -- `put_times` meets its contract: writing what remains of the list gives the same buffer. Assumes nothing.
 use Prim.Native.Nat.{◌≤◌, ◌-◌}
-use mathlib.Core.Path.{◌≡◌, refl, sym, ◌∙◌}
+use mathlib.Core.Path.{◌≡◌}
 use mathlib.Core.List.{map}
-use native.Mathlib.Omega.{arith}
-use borrow.Author.Rules.{rules}
-use lib.IntN.{pos}
-use lib.ListN.{length, drop, get_or}
-use mir.Syntax.{w32}
-use mir.Val.{SFits}
-use mir.Facts.{to_z-of_z}
+use lib.ListN.{length, drop}
 use Rattle.dialogue.specs.Written.{written, written_to, led, signed_decimal}
-use Rattle.dialogue.proofs.Buffers.{led-written, led-to, led-end, led-end-to}
 use Rattle.dialogue.proofs.writing.put_times.Given as goal
 
 abbrev pub invariant-loop-i : goal.invariant-loop-i
-invariant-loop-i l = 
+invariant-loop-i l =
     (l.i ≤ length l.list) ×
     ((length l.out ≡ length l.initial.out) ×
     ((written l.initial.out l.at (led (map signed_decimal l.list)) ≡ written l.out l.to (led (map signed_decimal (drop l.i l.list)))) × (written_to l.initial.out l.at (led (map signed_decimal l.list)) ≡ written_to l.out l.to (led (map signed_decimal (drop l.i l.list))))))

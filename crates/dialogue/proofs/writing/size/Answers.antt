@@ -1,7 +1,6 @@
 -- `size` meets its contract. Assumes nothing.
 use mathlib.Core.Path.{◌≡◌}
 use mathlib.Core.Bool.{true, false}
-use borrow.Author.Rules.{rules}
 use lib.IntN.{pos}
 use lib.Signed.{lt_z}
 use mir.Facts.{sfits_widen, to_z-of_z, Fits-nat_abs}

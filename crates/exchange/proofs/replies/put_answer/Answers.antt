@@ -1,5 +1,4 @@
 -- `put_answer` meets its contract: by the case of the answer. Assumes nothing.
-use borrow.Author.Rules.{rules}
 use Rattle.exchange.proofs.replies.put_answer.Goals as goal
 
 pub returns-in-Plan : goal.returns-in-Plan

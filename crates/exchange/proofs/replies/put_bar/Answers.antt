@@ -1,7 +1,4 @@
 -- `put_bar` meets its contract: by the length of the list after it. Assumes nothing.
-use borrow.Author.Rules.{rules}
-use lib.ListN.{length}
-use Rattle.dialogue.proofs.Buffers.{after}
 use Rattle.exchange.proofs.Bars.{bar-more, bar-none}
 use Rattle.exchange.proofs.replies.put_bar.Goals as goal
 

@@ -1,6 +1,5 @@
 -- `put_day` meets its contract: one text after another. Assumes nothing.
 use mathlib.Core.List.{[], ◌∷◌, ◌++◌}
-use borrow.Author.Rules.{rules}
 use Rattle.dialogue.proofs.Buffers.{after}
 use Rattle.exchange.specs.Replies.{with_two, times_text}
 use Rattle.exchange.proofs.replies.put_day.Goals as goal

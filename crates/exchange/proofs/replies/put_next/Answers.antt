@@ -1,6 +1,5 @@
 -- `put_next` meets its contract: one text after another. Assumes nothing.
 use mathlib.Core.List.{[], ◌∷◌}
-use borrow.Author.Rules.{rules}
 use Rattle.dialogue.specs.Written.{decimal}
 use Rattle.dialogue.proofs.Buffers.{after}
 use Rattle.exchange.proofs.replies.put_next.Goals as goal

@@ -1,6 +1,5 @@
 -- `put_panel` meets its contract: one text after another. Assumes nothing.
 use mathlib.Core.List.{[], ◌∷◌, ◌++◌, map}
-use borrow.Author.Rules.{rules}
 use Rattle.dialogue.specs.Written.{decimal, led}
 use Rattle.dialogue.proofs.Buffers.{after}
 use Rattle.exchange.specs.Replies.{next}

@@ -1,6 +1,5 @@
 -- `put_refused` meets its contract: one text after another. Assumes nothing.
 use mathlib.Core.List.{[], ◌∷◌}
-use borrow.Author.Rules.{rules}
 use Rattle.dialogue.proofs.Buffers.{after}
 use Rattle.exchange.specs.Replies.{next}
 use Rattle.exchange.proofs.replies.put_refused.Goals as goal

@@ -1,5 +1,4 @@
 -- `put_refused_at` meets its contract: one text after another. Assumes nothing.
-use borrow.Author.Rules.{rules}
 use Rattle.dialogue.proofs.Buffers.{after}
 use Rattle.exchange.specs.Replies.{next, refused_text}
 use Rattle.exchange.proofs.replies.put_refused_at.Goals as goal

@@ -1,6 +1,5 @@
 -- `put_room` meets its contract: one text after another. Assumes nothing.
 use mathlib.Core.List.{map}
-use borrow.Author.Rules.{rules}
 use lib.ListN.{length}
 use Rattle.dialogue.specs.Written.{decimal, led}
 use Rattle.dialogue.proofs.Buffers.{after}

@@ -1,5 +1,4 @@
 -- `put_three` meets its contract: one text after another. Assumes nothing.
-use borrow.Author.Rules.{rules}
 use Rattle.dialogue.proofs.Buffers.{after}
 use Rattle.exchange.specs.Replies.{next, with_two}
 use Rattle.exchange.proofs.replies.put_three.Goals as goal

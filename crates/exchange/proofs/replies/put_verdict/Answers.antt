@@ -1,5 +1,4 @@
 -- `put_verdict` meets its contract: by the case of the verdict. Assumes nothing.
-use borrow.Author.Rules.{rules}
 use Rattle.exchange.proofs.replies.put_verdict.Goals as goal
 
 pub returns-in-Yes : goal.returns-in-Yes

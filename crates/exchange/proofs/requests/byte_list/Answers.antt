@@ -1,6 +1,5 @@
 -- `byte_list` meets its contract: a count and so many bytes are read, or the line is malformed. Assumes nothing.
 use native.Mathlib.Omega.{arith}
-use borrow.Author.Rules.{rules}
 use lib.ListN.{length-take}
 use Rattle.dialogue.specs.Words.{unsigned_of}
 use Rattle.exchange.proofs.Asking.{list-none, list-in, list_up, list-off, list-fills}

@@ -1,10 +1,9 @@
 -- `head_at` meets its contract. Assumes nothing.
 use mathlib.Core.Path.{refl, sym, ◌∙◌}
-use borrow.Author.Rules.{rules}
 use Rattle.exchange.proofs.requests.head_at.Goals as goal
 
 pub returns-in_default : goal.returns-in_default
-returns-in_default c =     rw (sym c.number_at.ensures ∙ c.in_default.is) refl
+returns-in_default c = rw (sym c.number_at.ensures ∙ c.in_default.is) refl
 
 pub returns-in_default-number_at : goal.returns-in_default-number_at
 returns-in_default-number_at c =

@@ -1,5 +1,4 @@
 -- `lists_at` meets its contract. Assumes nothing.
-use borrow.Author.Rules.{rules}
 use Rattle.exchange.proofs.Asking.{lists-none, lists_of, lists-off, counts-filled}
 use Rattle.exchange.proofs.requests.lists_at.Goals as goal
 

@@ -1,6 +1,5 @@
 -- `number_list` meets its contract: a count and so many unsigned numbers are read, or the line is malformed. Assumes nothing.
 use native.Mathlib.Omega.{arith}
-use borrow.Author.Rules.{rules}
 use lib.ListN.{length-take}
 use Rattle.exchange.specs.Requests.{number}
 use Rattle.exchange.proofs.Asking.{list-none, list-in, list_up, list-off, list-fills}

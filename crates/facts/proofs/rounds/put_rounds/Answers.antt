@@ -1,14 +1,11 @@
 -- `put_rounds` makes the rounds: after k turns the table's rows up to k are those of k rounds, each of these changed a time, and the rows after k are as they were. Assumes nothing.
-use Prim.Native.Nat.{◌+◌, ◌-◌, ◌≤◌}
-use mathlib.Core.Path.{◌≡◌, refl}
+use mathlib.Core.Path.{refl}
 use mathlib.Core.List.{[]}
 use native.Mathlib.Omega.{arith}
-use lib.ListN.{length, get_or, length-set}
+use lib.ListN.{length-set}
 use lib.Seq.{get_or-set_same}
 use Rattle.meaning.specs.Limits.{most_events}
-use Rattle.problem.specs.Arcs.{net}
 use Rattle.facts.specs.Tests.{farthest}
-use Rattle.facts.specs.Rounds.{Rounds, Moving, Stays}
 use Rattle.facts.proofs.Tables.{rounds-first, next-round, rounds-more, rounds-small, stays-stored, stays-since, moving-more, ended-all, ended-still, some-changed, none-changed}
 use Rattle.facts.proofs.Deciding.{within_more}
 use Rattle.facts.proofs.rounds.put_rounds.Goals as goal

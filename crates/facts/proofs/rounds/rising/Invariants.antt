@@ -1,7 +1,5 @@
 -- `rising` finds the first event that rose: none before the loop's place has. Assumes nothing.
 use Prim.Native.Nat.{ℕ, ◌-◌, ◌≤◌, ◌<◌}
-use native.Mathlib.Omega.{arith}
-use borrow.Author.Count.{below_more}
 use Rattle.problem.specs.Arcs.{at}
 use Rattle.facts.proofs.rounds.rising.Given as goal
 

@@ -1,8 +1,6 @@
 -- `round_of` is a round: after i turns it is the round's first i facts. Assumes nothing.
-use Prim.Native.Nat.{◌-◌, ◌≤◌}
 use mathlib.Core.Path.{◌≡◌, refl}
 use native.Mathlib.Omega.{arith}
-use borrow.Author.Rules.{rules}
 use lib.ListN.{length}
 use Rattle.meaning.specs.Limits.{most_events}
 use Rattle.problem.specs.Arcs.{net, Arc}
@@ -43,9 +41,6 @@ pub bounds-cur-y : goal.bounds-cur-y
 bounds-cur-y c =
     let arc : Arc (net c.args.xs.now c.args.ys.now c.args.bs.now) most_events c.wide-j.result = (rw c.wide-j.ensures (c.requires.0.known.each c.loop-i.i (omega arith))) in
     omega (arith, (arc).in_tail)
-
-pub overflow_add-cur : goal.overflow_add-cur
-overflow_add-cur c = omega (arith, c.requires.1 c.wide-y.result)
 
 pub offset_bounds-bs-j : goal.offset_bounds-bs-j
 offset_bounds-bs-j c =

@@ -1,13 +1,9 @@
 -- `round_of` is a round: after i turns it is the round's first i facts. Assumes nothing.
 use Prim.Native.Nat.{◌-◌, ◌≤◌}
-use mathlib.Core.Path.{◌≡◌, refl}
-use native.Mathlib.Omega.{arith}
-use borrow.Author.Rules.{rules}
+use mathlib.Core.Path.{◌≡◌}
 use lib.ListN.{length}
-use Rattle.meaning.specs.Limits.{most_events}
-use Rattle.problem.specs.Arcs.{net, Arc}
+use Rattle.problem.specs.Arcs.{net}
 use Rattle.facts.specs.Rounds.{upto}
-use Rattle.facts.proofs.Tables.{upto-more}
 use Rattle.facts.proofs.rounds.round_of.Given as goal
 
 abbrev pub invariant-loop-i : goal.invariant-loop-i

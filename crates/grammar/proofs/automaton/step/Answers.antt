@@ -1,6 +1,5 @@
 -- `grammar::step` meets its contract: the table says it of each state and byte. Assumes nothing.
 use native.Mathlib.Omega.{arith}
-use borrow.Author.Rules.{rules}
 use mathlib.Core.Path.{subst, sym}
 use Prim.Native.Nat.{ℕ}
 use Rattle.grammar.specs.Automaton.{class_of, entry, Steps}

@@ -1,17 +1,12 @@
 -- `grammar::piece_at` meets its contract: the piece so far goes in front of what remains. Assumes nothing.
-use Prim.Native.Nat.{◌≤◌, ◌<◌, ◌-◌}
 use native.Mathlib.Omega.{arith}
-use lib.ListN.{length}
-use Rattle.grammar.proofs.Parts.{Run, run-begins, run-goes-on, ends-with-text, ends-refused, ends-apart, none-at-the-end, none-refused}
+use Rattle.grammar.proofs.Parts.{run-begins, run-goes-on, ends-with-text, ends-refused, ends-apart, none-at-the-end, none-refused}
 use Rattle.grammar.proofs.pieces.piece_at.Goals as goal
 
 pub returns-then-text-at : goal.returns-then-text-at
 returns-then-text-at c =
     let a = c.args in
     none-at-the-end a.text.now a.at a.state (omega arith)
-
-pub step-first-requires : goal.step-first-requires
-step-first-requires c = c.requires
 
 pub returns-then-first-eq0 : goal.returns-then-first-eq0
 returns-then-first-eq0 c =
@@ -25,9 +20,6 @@ loop-i-init c =
     let m = c.step-first in
     (omega arith, (omega arith, run-begins a.text.now a.at a.state m.result.to m.result.role (omega arith) m.ensures c.if-first-eq0.false))
 
-pub step-next-requires : goal.step-next-requires
-step-next-requires c = c.requires
-
 pub returns-then-next-eq0 : goal.returns-then-next-eq0
 returns-then-next-eq0 c =
     let a = c.args in
@@ -40,14 +32,14 @@ returns-then-next-role c =
     let a = c.args in
     let l = c.loop-i in
     let m = c.step-next in
-    ends-apart a.text.now a.at a.state c.step-first.result.role l.i l.s (omega arith) l.invariant.1.1 m.result.to m.result.role (omega arith) m.ensures c.if-next-eq0.false c.if-next-role.true
+    ends-apart a.text.now a.at a.state c.step-first.result.role l.i l.s (omega arith) l.invariant.1.1 m.result.to m.result.role (omega arith) m.ensures (λ e. omega arith) c.if-next-role.true
 
 pub loop-i-preserved : goal.loop-i-preserved
 loop-i-preserved c =
     let a = c.args in
     let l = c.loop-i in
     let m = c.step-next in
-    (omega arith, (omega arith, run-goes-on a.text.now a.at a.state c.step-first.result.role l.i l.s (omega arith) l.invariant.1.1 m.result.to m.result.role (omega arith) m.ensures c.if-next-eq0.false c.if-next-role.false))
+    (omega arith, (omega arith, run-goes-on a.text.now a.at a.state c.step-first.result.role l.i l.s (omega arith) l.invariant.1.1 m.result.to m.result.role (omega arith) m.ensures (λ e. omega arith) c.if-next-role.false))
 
 pub returns : goal.returns
 returns c =

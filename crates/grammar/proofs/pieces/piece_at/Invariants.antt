@@ -1,8 +1,7 @@
 -- `grammar::piece_at` meets its contract: the piece so far goes in front of what remains. Assumes nothing.
 use Prim.Native.Nat.{◌≤◌, ◌<◌, ◌-◌}
-use native.Mathlib.Omega.{arith}
 use lib.ListN.{length}
-use Rattle.grammar.proofs.Parts.{Run, run-begins, run-goes-on, ends-with-text, ends-refused, ends-apart, none-at-the-end, none-refused}
+use Rattle.grammar.proofs.Parts.{Run}
 use Rattle.grammar.proofs.pieces.piece_at.Given as goal
 
 abbrev pub invariant-loop-i : goal.invariant-loop-i

@@ -1,6 +1,6 @@
 # To be sourced by the bench's scripts: builds what they measure, and makes the requests and scripts that they measure on.
 # Sets root; seed; room, a folder for this run; clock, which runs natively; and as arrays of words table, simple and same.
-# TABLE and QUIET stand in for target/bin/table and for what bench/quiet makes, to try the bench itself.
+# TABLE and QUIET stand in for crates/table/out/table and for what bench/quiet makes, to try the bench itself.
 root=$(cd "$(dirname "${BASH_SOURCE[0]}")/.." && pwd -P)
 . "$root/tests/cargo.sh"
 . "$root/tests/x86-64.sh"
@@ -13,8 +13,8 @@ build_native() { # FOLDER
     (cd "$1" && CARGO_TARGET_DIR=target cargo build --offline --release --quiet)
 }
 
-TABLE=${TABLE:-$root/target/bin/table}
-[ -r "$TABLE" ] || { echo "there is no target/bin/table: rt check table makes it" >&2; exit 2; }
+TABLE=${TABLE:-$root/crates/table/out/table}
+[ -r "$TABLE" ] || { echo "there is no crates/table/out/table: rt run in crates/table makes it" >&2; exit 2; }
 build_native "$root/tests/independent"
 build_native "$root/bench/clock"
 independent=$root/tests/independent/target/release/independent

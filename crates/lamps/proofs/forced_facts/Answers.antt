@@ -66,7 +66,8 @@ loop-k-preserved c =
     let i = c.loop-k.invariant in
     let p = c.args.p in
     let some : 0 < k = omega arith in
-    (i.0 ∙ forced-passed p k some i.4 c.if-starts-k-eq1.false, i.1, i.2, omega arith, omega arith)
+    let other : at p.starts (k - 1 + 1) - at p.starts (k - 1) ≡ 1 → ⊥ = λ one. omega arith in
+    (i.0 ∙ forced-passed p k some i.4 other, i.1, i.2, omega arith, omega arith)
 
 pub returns : goal.returns
 returns c =

@@ -39,7 +39,7 @@ returns-then-left-eq0 t c =
     record { is = sym (read-stop (rows_of row_bytes a.list.now) a.row _ _ _ (onward-there (rows_of row_bytes a.list.now) a.row e) e (clauses-none a.p _ _ c.if-left-eq0.true)); reached = tt }
 
 pub bounds-p-k : goal.bounds-p-k
-bounds-p-k t c = omega (arith, pos_of_ne-zero c.if-left-eq0.false, c.requires.0.few, c.requires.1.all)
+bounds-p-k t c = omega (arith, c.requires.0.few, c.requires.1.all)
 
 pub overflow_add-r : goal.overflow_add-r
 overflow_add-r t c =
@@ -50,8 +50,9 @@ pub loop-j-init : goal.loop-j-init
 loop-j-init t c =
     let a = c.args in
     let h : length a.facts ≡ 65 = search rules in
+    let some : a.left ≡ 0 → ⊥ = λ none. omega arith in
     let e = sym c.mark_at-m.ensures ∙ ap kind_of c.in-Onward.is in
-    pass-start a.p c.requires.0 (rows_of row_bytes a.list.now) a.k a.left _ _ a.facts a.from a.row h c.requires.1 c.if-left-eq0.false c.wide-end.ensures c.wide-j.ensures (onward-there (rows_of row_bytes a.list.now) a.row e) e
+    pass-start a.p c.requires.0 (rows_of row_bytes a.list.now) a.k a.left _ _ a.facts a.from a.row h c.requires.1 some c.wide-end.ensures c.wide-j.ensures (onward-there (rows_of row_bytes a.list.now) a.row e) e
 
 pub overflow_add-turned : goal.overflow_add-turned
 overflow_add-turned t c = omega (arith, pass-small _ c.requires.0 _ _ _ _ _ _ _ _ _ c.loop-j.invariant c.loop-j-test.true)

@@ -1,5 +1,6 @@
 -- `readers::dead` meets its contract: what remains of the dead clause from row r on gives the same. Assumes nothing.
 use mathlib.Core.Path.{◌≡◌, sym}
+use Prim.Native.Nat.{◌≤◌}
 use native.Mathlib.Omega.{arith}
 use borrow.Author.Rules.{rules}
 use lib.ListN.{length}
@@ -15,7 +16,8 @@ returns-then-d-k c = record { is = sym (dead-chosen c.args.p _ _ _ c.requires.1.
 
 pub returns-then-p-d : goal.returns-then-p-d
 returns-then-p-d c =
-    record { is = sym (dead-past c.args.p _ _ _ c.requires.1.all _ _ c.if-d-k.false c.if-p-d.true); reached = tt }
+    let later : c.args.k ≤ c.args.d = omega arith in
+    record { is = sym (dead-past c.args.p _ _ _ c.requires.1.all _ _ later c.if-p-d.true); reached = tt }
 
 pub overflow_add-d : goal.overflow_add-d
 overflow_add-d c = omega (arith, c.requires.0.few)
@@ -38,7 +40,8 @@ overflow_sub-first c = omega (arith, c.requires.0.ends c.args.k (omega arith), c
 pub loop-j-init : goal.loop-j-init
 loop-j-init c =
     let h : length c.args.facts ≡ 65 = search rules in
-    test-start c.args.p c.requires.0 (rows_of row_bytes c.args.list.now) c.args.d c.args.k c.args.left _ _ c.args.facts c.args.from c.args.row h c.requires.1 c.if-d-k.false c.if-p-d.false c.wide-end.ensures c.wide-j.ensures (omega (arith, c.requires.2, rows-count row_bytes c.args.list.now))
+    let later : c.args.k ≤ c.args.d = omega arith in
+    test-start c.args.p c.requires.0 (rows_of row_bytes c.args.list.now) c.args.d c.args.k c.args.left _ _ c.args.facts c.args.from c.args.row h c.requires.1 later c.if-p-d.false c.wide-end.ensures c.wide-j.ensures (omega (arith, c.requires.2, rows-count row_bytes c.args.list.now))
 
 pub overflow_cast-known : goal.overflow_cast-known
 overflow_cast-known c =

@@ -5,7 +5,7 @@ use native.Mathlib.Nat.{pos_of_ne-zero}
 use native.Mathlib.Omega.{arith}
 use borrow.Author.Rules.{rules}
 use lib.ListN.{length}
-use Rattle.problem.specs.Arcs.{Arc}
+use Rattle.problem.specs.Arcs.{at, Arc}
 use Rattle.problem.specs.Laid.{arcs}
 use Rattle.readers.proofs.Walking.{known-arc, loops-on, loops-none, loops-foreign, on-foreign, on-apart, on-more, on-open, on-closed}
 use Rattle.readers.proofs.is_cycle.Goals as goal
@@ -92,4 +92,5 @@ overflow_mul-result c = omega (arith, c.loop-i.invariant.0, c.requires.1)
 
 pub returns : goal.returns
 returns c =
-    sym (c.loop-i.invariant.2 ∙ on-closed (arcs c.args.p) c.args.facts.now _ _ _ _ _ c.loop-i-test.false c.if-here-start.false)
+    let back : c.loop-i.here ≡ at c.args.p.ys c.wide.result = omega arith in
+    sym (c.loop-i.invariant.2 ∙ on-closed (arcs c.args.p) c.args.facts.now _ _ _ _ _ c.loop-i-test.false back)

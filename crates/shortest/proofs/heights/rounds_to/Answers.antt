@@ -34,7 +34,7 @@ returns-then-nxt-t-gt-HIGHEST c =
     record {
       within = omega arith;
       below = l.invariant.1;
-      above = λ _. omega (arith, round-height _ _ c.args.t l.tab l.r l.invariant.0 r.result r.ensures c.args.t, c.if-nxt-t-gt-HIGHEST.true);
+      above = λ _. omega (arith, round-height _ _ c.args.t l.tab l.r l.invariant.0 r.result r.ensures c.args.t);
       rounds = λ _. rounds-more _ _ _ l.tab l.r l.invariant.0 (omega arith) r.result r.ensures;
     }
 
@@ -42,7 +42,7 @@ pub loop-r-preserved : goal.loop-r-preserved
 loop-r-preserved c =
     let l = c.loop-r in
     let r = c.round_of-nxt in
-    (rounds-more _ _ _ l.tab l.r l.invariant.0 (omega arith) r.result r.ensures, below_more _ _ l.invariant.1 (omega (arith, round-height _ _ c.args.t l.tab l.r l.invariant.0 r.result r.ensures c.args.t, c.if-nxt-t-gt-HIGHEST.false)), simp length-set (omega arith), omega arith)
+    (rounds-more _ _ _ l.tab l.r l.invariant.0 (omega arith) r.result r.ensures, below_more _ _ l.invariant.1 (omega (arith, round-height _ _ c.args.t l.tab l.r l.invariant.0 r.result r.ensures c.args.t)), simp length-set (omega arith), omega arith)
 
 pub returns : goal.returns
 returns c =

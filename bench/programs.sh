@@ -3,7 +3,6 @@
 # TABLE and QUIET stand in for crates/table/out/table and for what bench/quiet makes, to try the bench itself.
 root=$(cd "$(dirname "${BASH_SOURCE[0]}")/.." && pwd -P)
 . "$root/tests/cargo.sh"
-. "$root/tests/x86-64.sh"
 seed=${SEED:-1}
 room=$(mktemp -d)
 trap 'rm -rf "$room"' EXIT
@@ -19,17 +18,17 @@ build_native "$root/tests/independent"
 build_native "$root/bench/clock"
 independent=$root/tests/independent/target/release/independent
 clock=$root/bench/clock/target/release/clock
-table=("${x86_64[@]}" "$TABLE")
+table=("$TABLE")
 # Jumps are kept off the ends of blocks of 32 bytes, at which some Intel processors are slow: else it hangs on where a loop
 # happens to lie, and the simple planner was seen to take 30 % longer at the same instructions.
 padded=(-C llvm-args=-x86-branches-within-32B-boundaries)
-simple=("${x86_64[@]}" "$("$root/bench/build" "$root/bench/simple" simple "${padded[@]}")")
-same=("${x86_64[@]}" "$("$root/bench/build" "$root/bench/same" same "${padded[@]}")")
+simple=("$("$root/bench/build" "$root/bench/simple" simple "${padded[@]}")")
+same=("$("$root/bench/build" "$root/bench/same" same "${padded[@]}")")
 
 # Sets quiet_table, quiet_simple and quiet_same, which print nothing of the reasons.
 make_quiet() {
     QUIET=${QUIET:-$("$root/bench/quiet")}
-    quiet_table=("${x86_64[@]}" "$QUIET")
+    quiet_table=("$QUIET")
     quiet_simple=("${simple[@]}" quiet)
     quiet_same=("${same[@]}" quiet)
 }
@@ -49,7 +48,6 @@ z3_version() {
 has_callgrind() {
     local why=''
     command -v valgrind >/dev/null 2>&1 || why="there is no valgrind (apt-get install valgrind)"
-    [ "$(uname -m)" = x86_64 ] || why="valgrind runs no x86-64 program on $(uname -m)"
     [ -z "$why" ] || { echo "$why: instructions are not counted" >&2; return 1; }
 }
 
@@ -110,9 +108,7 @@ z3_must_agree() { # SCRIPT REPLIES
     cmp "$room/held" "$room/said.z3" >&2 || { echo "z3 disagrees" >&2; exit 1; }
 }
 
-# How the programs are run, for the first line of a table.
+# The machine, for the first line of a table.
 machine() {
-    local under=''
-    if [ "${x86_64[0]##*/}" = qemu-x86_64 ]; then under=", our programs under the emulator"; fi
-    echo "$(uname -m)$under, seed $seed"
+    echo "$(uname -m), seed $seed"
 }

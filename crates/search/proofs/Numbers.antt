@@ -3,6 +3,7 @@ use mathlib.Core.Path.{◌≡◌, refl, sym, ap, ap₂, ◌∙◌, subst}
 use mathlib.Core.List.{List, [], ◌∷◌, map}
 use Prim.Native.Nat.{ℕ, zero, suc, ◌+◌, ◌-◌, ◌<◌, ◌≤◌}
 use native.Mathlib.Nat.{not-suc-le-zero, le_of_suc-le-suc}
+use native.Mathlib.Numerals.{add-one}
 use native.Mathlib.Omega.{arith}
 use lib.ListN.{length, get_or, take, drop, length-take, drop_of_length-le}
 use lib.Seq.{drop-cons, get_or-take}
@@ -13,9 +14,9 @@ use Rattle.meaning.specs.Search.{Standing, taking, facts}
 use Rattle.problem.specs.declared.Problem.{Problem}
 use Rattle.problem.specs.Arcs.{Net, at, arc, arcs_from, Known}
 use Rattle.problem.specs.Laid.{arcs, size_of, clauses_from, Laid}
-use Rattle.problem.proofs.Laying.{arcs-length, position-below, clause-ends}
+use Rattle.problem.proofs.Laying.{arcs-length, position-below, clause-ends, clause-last}
 use Rattle.problem.proofs.Knowing.{known-none, known_more}
-use Rattle.search.specs.Standing.{takes, standing_facts, chosen_facts}
+use Rattle.search.specs.Standing.{takes, standing_facts, chosen_facts, Inside}
 
 -- ---- the numbers, as the loops go
 -- an alternative passed over
@@ -59,6 +60,16 @@ inside-standing p (i ∷ picks) (suc k) c m h (suc d) l = (
   subst (λ (s : ℕ). i < s) (sym (arcs-length (arcs p) (at p.starts c) (size_of p c))) (subst (λ (e : ℕ). i < size_of p e) (let e : c + 0 ≡ c = omega arith in e) (h 0 (omega arith))),
   inside-standing p picks k (suc c) (le_of_suc-le-suc m) (λ j b. subst (λ (e : ℕ). at picks j < size_of p e) (let e : c + suc j ≡ suc c + j = omega arith in e) (h (suc j) (omega arith))) d (le_of_suc-le-suc l),
 )
+
+-- ---- what the loops count by
+module _ {p : Problem} (laid : Laid p) where
+  -- clause d ends where the next one begins
+  pub clause-next : (d : ℕ) → d < p.m → at p.starts (d + 1) ≡ at p.starts d + size_of p d
+  clause-next d h = ap (at p.starts) (add-one d) ∙ clause-last p laid d h
+
+  -- there is a pick for each of the first k positions
+  pub picks-enough : {picks : List ℕ} {k : ℕ} → Inside p picks k → length picks ≡ 32 → k ≤ length picks
+  picks-enough inside long = omega (arith, laid.few, inside.few)
 
 module _ (p : Problem) (laid : Laid p) where
   -- position i of the clause of s arcs from j on

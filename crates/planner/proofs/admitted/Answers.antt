@@ -3,7 +3,6 @@ use mathlib.Core.Path.{◌≡◌, sym, ◌∙◌}
 use Prim.Native.Nat.{ℕ}
 use native.Mathlib.Omega.{arith}
 use native.Mathlib.Nat.{pos_of_ne-zero}
-use Rattle.planner.specs.Call.{call}
 use Rattle.planner.proofs.Refusals.{refused-problem, refused-allowance, refused-times, refused-picks, taken}
 use Rattle.planner.proofs.admitted.Goals as goal
 
@@ -16,7 +15,7 @@ eight e = omega arith
 pub returns-then-c-ne0 : goal.returns-then-c-ne0
 returns-then-c-ne0 c =
     record {
-      by_index = λ room. c.check-c.ensures.number_value ∙ refused-problem (call c.args.n c.args.triples.now c.args.counts.now c.args.allowance c.args.times c.args.picks room) (rw c.check-c.ensures.number_value at (pos_of_ne-zero c.if-c-ne0.true));
+      by_index = λ room. c.check-c.ensures.number_value ∙ refused-problem _ (rw c.check-c.ensures.number_value at (pos_of_ne-zero c.if-c-ne0.true));
       reads = λ z. absurd (c.if-c-ne0.true z);
     }
 
@@ -24,7 +23,7 @@ pub returns-then-allowance-gt-ALLOWANCE : goal.returns-then-allowance-gt-ALLOWAN
 returns-then-allowance-gt-ALLOWANCE c =
     let z = sym c.check-c.ensures.number_value ∙ c.if-c-ne0.false in
     record {
-      by_index = λ room. refused-allowance (call c.args.n c.args.triples.now c.args.counts.now c.args.allowance c.args.times c.args.picks room) z c.if-allowance-gt-ALLOWANCE.true;
+      by_index = λ room. refused-allowance _ z c.if-allowance-gt-ALLOWANCE.true;
       reads = λ e. absurd (seven e);
     }
 
@@ -32,7 +31,7 @@ pub returns-then-times-n : goal.returns-then-times-n
 returns-then-times-n c =
     let z = sym c.check-c.ensures.number_value ∙ c.if-c-ne0.false in
     record {
-      by_index = λ room. refused-times (call c.args.n c.args.triples.now c.args.counts.now c.args.allowance c.args.times c.args.picks room) z (omega arith) (omega arith);
+      by_index = λ room. refused-times _ z (omega arith) (omega arith);
       reads = λ e. absurd (eight e);
     }
 
@@ -40,7 +39,7 @@ pub returns-then-picks-counts : goal.returns-then-picks-counts
 returns-then-picks-counts c =
     let z = sym c.check-c.ensures.number_value ∙ c.if-c-ne0.false in
     record {
-      by_index = λ room. refused-picks (call c.args.n c.args.triples.now c.args.counts.now c.args.allowance c.args.times c.args.picks room) z (omega arith) (omega arith) (omega arith);
+      by_index = λ room. refused-picks _ z (omega arith) (omega arith) (omega arith);
       reads = λ e. absurd (eight e);
     }
 
@@ -48,6 +47,6 @@ pub returns : goal.returns
 returns c =
     let z = sym c.check-c.ensures.number_value ∙ c.if-c-ne0.false in
     record {
-      by_index = λ room. c.if-c-ne0.false ∙ taken (call c.args.n c.args.triples.now c.args.counts.now c.args.allowance c.args.times c.args.picks room) z (omega arith) (omega arith) (omega arith);
+      by_index = λ room. c.if-c-ne0.false ∙ taken _ z (omega arith) (omega arith) (omega arith);
       reads = c.check-c.ensures.reads;
     }

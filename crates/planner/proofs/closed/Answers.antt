@@ -4,15 +4,18 @@ use Prim.Native.Nat.{ℕ, ◌-◌}
 use native.Mathlib.Omega.{arith}
 use Rattle.meaning.specs.declared.Answer.TheVariants.{None, Unlisted}
 use Rattle.meaning.specs.Plain.{product}
-use Rattle.problem.specs.Laid.{clauses_from}
+use Rattle.problem.specs.declared.Problem.{Problem}
+use Rattle.problem.specs.Laid.{clauses_from, clauses_in}
 use Rattle.planner.proofs.closed.Goals as goal
+
+-- the selections of the clauses from clause 0 on are all selections
+counts-all : (p : Problem) {b : ℕ} → b ≡ product (clauses_from p 0 (p.m - 0)) → b ≡ product (clauses_in p)
+counts-all p e = e ∙ ap (λ (d : ℕ). product (clauses_from p 0 d)) (let q : p.m - 0 ≡ p.m = omega arith in q)
 
 pub returns-then-rows-reasons : goal.returns-then-rows-reasons
 returns-then-rows-reasons c =
-    let all = c.under-before.ensures ∙ ap (λ (d : ℕ). product (clauses_from c.args.p 0 d)) (let e : c.args.p.m - 0 ≡ c.args.p.m = omega arith in e) in
-    record { fits = λ l. (ap (λ (b : ℕ). None c.args.s.visits b c.args.s.rows) all, refl); over = λ l. absurd (omega arith) }
+    record { fits = λ l. (ap (λ (b : ℕ). None c.args.s.visits b c.args.s.rows) (counts-all c.args.p c.under-before.ensures), refl); over = λ l. absurd (omega arith) }
 
 pub returns : goal.returns
 returns c =
-    let all = c.under-before.ensures ∙ ap (λ (d : ℕ). product (clauses_from c.args.p 0 d)) (let e : c.args.p.m - 0 ≡ c.args.p.m = omega arith in e) in
-    record { fits = λ l. absurd (omega arith); over = λ l. (ap (λ (b : ℕ). Unlisted c.args.s.visits b c.args.s.rows) all, c.fill_bytes.ensures) }
+    record { fits = λ l. absurd (omega arith); over = λ l. (ap (λ (b : ℕ). Unlisted c.args.s.visits b c.args.s.rows) (counts-all c.args.p c.under-before.ensures), c.fill_bytes.ensures) }

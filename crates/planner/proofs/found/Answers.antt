@@ -1,19 +1,13 @@
 -- `planner::found` meets its contract: the place holds a whole selection. Assumes nothing.
-use mathlib.Core.Path.{◌≡◌, sym, ap, ◌∙◌, subst}
-use mathlib.Core.Bool.{true}
+use mathlib.Core.Path.{sym, ap, ◌∙◌}
 use mathlib.Core.List.{◌++◌}
 use Prim.Native.Nat.{ℕ}
 use lib.ListN.{take, drop}
 use Rattle.meaning.specs.declared.Answer.TheVariants.{Plan}
 use Rattle.meaning.specs.Plain.{chosen}
-use Rattle.meaning.specs.Decision.{sound, latest_of}
+use Rattle.meaning.specs.Decision.{latest_of}
 use Rattle.problem.specs.Laid.{clauses_in}
-use Rattle.search.specs.Standing.{Inside}
 use Rattle.planner.proofs.found.Goals as goal
-
-pub put_day-requires : goal.put_day-requires
-put_day-requires c =
-    (c.requires.0, subst (Inside c.args.p c.args.s.picks) c.requires.2 c.requires.1, c.requires.3, subst (λ (d : ℕ). sound (chosen (clauses_in c.args.p) (take d c.args.s.picks)) ≡ true) c.requires.2 c.requires.5)
 
 pub returns : goal.returns
 returns c =

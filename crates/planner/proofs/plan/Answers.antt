@@ -16,7 +16,7 @@ planned-requires c =
     let z = c.if-c-ne0.false in
     let reads = c.admitted-c.ensures.reads z in
     let room = room_of (call c.args.n c.args.triples.now c.args.counts.now c.args.allowance (length c.fill_numbers.new.s) (length c.fill_bytes.new.s) 0) (sym (c.admitted-c.ensures.by_index 0) ∙ z) in
-    (reads.laid, room.allowed, cleared c.args.timetable.now c.fill_numbers.new.s c.args.picks.now c.fill_bytes.new.s c.args.reasons.now c.fill_bytes-2.new.s c.fill_numbers.ensures c.fill_bytes.ensures c.fill_bytes-2.ensures, roomy-times (length c.fill_numbers.new.s) room.times reads.events, roomy-picks (given c.args.n c.args.triples.now c.args.counts.now) c.admitted-c.result.problem reads (length c.fill_bytes.new.s) room.picks)
+    (reads.laid, room.allowed, cleared _ _ _ _ _ _ c.fill_numbers.ensures c.fill_bytes.ensures c.fill_bytes-2.ensures, roomy-times (length c.fill_numbers.new.s) room.times reads.events, roomy-picks (given c.args.n c.args.triples.now c.args.counts.now) c.admitted-c.result.problem reads (length c.fill_bytes.new.s) room.picks)
 
 pub returns : goal.returns
 returns c =

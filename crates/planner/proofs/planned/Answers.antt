@@ -1,14 +1,11 @@
 -- `planner::planned` meets its contract: what is left, by how the run ended, is what the screen shows. Assumes nothing.
-use mathlib.Core.Path.{◌≡◌}
-use lib.ListN.{length}
 use Rattle.planner.proofs.Turning.{halted, ended, planned, plan-sound, none-few, answers-closed, answers-stopped, answers-found}
 use borrow.Author.Rules.{rules}
 use Rattle.planner.proofs.planned.Goals as goal
 
 pub closed-requires : goal.closed-requires
 closed-requires c =
-    let g = c.run-w.result.place in
-    (c.requires.0, none-few c.args.p c.requires.0 c.args.allowance g c.run-w.new.reasons c.requires.1 (ended c.args.p c.args.allowance _ c.run-w.result.turn g c.run-w.new.reasons c.in-Closed.is c.run-w.ensures.ends))
+    (c.requires.0, none-few c.args.p c.requires.0 c.args.allowance c.run-w.result.place c.run-w.new.reasons c.requires.1 (ended _ _ _ _ _ _ c.in-Closed.is c.run-w.ensures.ends))
 
 pub found-requires : goal.found-requires
 found-requires c =
@@ -16,23 +13,14 @@ found-requires c =
     let h = planned c.args.p c.args.allowance _ c.run-w.result.turn g c.run-w.new.reasons c.in-Plan.is c.run-w.ensures.ends in
     (c.requires.0, h.inside, h.whole, c.requires.3, c.requires.4, plan-sound c.args.p c.requires.0 c.args.allowance g h)
 
-pub stopped-requires : goal.stopped-requires
-stopped-requires c =
-    let g = c.run-w.result.place in
-    (c.requires.0, (halted c.args.p c.args.allowance _ c.run-w.result.turn g c.run-w.new.reasons c.in-On.is c.run-w.ensures.ends).inside)
-
 pub returns-in-Closed : goal.returns-in-Closed
 returns-in-Closed c =
-    let g = c.run-w.result.place in
-    answers-closed c.args.p c.requires.0 c.args.allowance g c.args.timetable.now c.args.picks.now c.args.reasons.now c.requires.2 c.run-w.new.reasons c.closed.new.reasons c.closed.result c.run-w.ensures.sized (ended c.args.p c.args.allowance _ c.run-w.result.turn g c.run-w.new.reasons c.in-Closed.is c.run-w.ensures.ends) c.closed.ensures
+    answers-closed c.args.p c.requires.0 c.args.allowance c.run-w.result.place c.args.timetable.now c.args.picks.now c.args.reasons.now c.requires.2 c.run-w.new.reasons c.closed.new.reasons c.closed.result c.run-w.ensures.sized (ended _ _ _ _ _ _ c.in-Closed.is c.run-w.ensures.ends) c.closed.ensures
 
 pub returns-in-Plan : goal.returns-in-Plan
 returns-in-Plan c =
-    let long-picks : length c.run-w.result.place.picks ≡ 32 = (search rules) in
-    let g = c.run-w.result.place in
-    answers-found c.args.p c.requires.0 c.args.allowance g c.args.timetable.now c.args.picks.now c.args.reasons.now c.requires.2 c.found.result c.run-w.new.reasons c.fill_bytes.new.s c.found.new.timetable c.found.new.picks (long-picks) c.run-w.ensures.sized c.fill_bytes.ensures (planned c.args.p c.args.allowance _ c.run-w.result.turn g c.run-w.new.reasons c.in-Plan.is c.run-w.ensures.ends) c.found.ensures
+    answers-found c.args.p c.requires.0 c.args.allowance c.run-w.result.place c.args.timetable.now c.args.picks.now c.args.reasons.now c.requires.2 c.found.result c.run-w.new.reasons c.fill_bytes.new.s c.found.new.timetable c.found.new.picks (search rules) c.run-w.ensures.sized c.fill_bytes.ensures (planned _ _ _ _ _ _ c.in-Plan.is c.run-w.ensures.ends) c.found.ensures
 
 pub returns-in-On : goal.returns-in-On
 returns-in-On c =
-    let g = c.run-w.result.place in
-    answers-stopped c.args.p c.requires.0 c.args.allowance g c.args.timetable.now c.args.picks.now c.args.reasons.now c.requires.2 c.stopped.result c.run-w.new.reasons c.fill_bytes-in-On.new.s c.run-w.ensures.sized c.fill_bytes-in-On.ensures c.stopped.ensures (halted c.args.p c.args.allowance _ c.run-w.result.turn g c.run-w.new.reasons c.in-On.is c.run-w.ensures.ends)
+    answers-stopped c.args.p c.requires.0 c.args.allowance c.run-w.result.place c.args.timetable.now c.args.picks.now c.args.reasons.now c.requires.2 c.stopped.result c.run-w.new.reasons c.fill_bytes-in-On.new.s c.run-w.ensures.sized c.fill_bytes-in-On.ensures c.stopped.ensures (halted _ _ _ _ _ _ c.in-On.is c.run-w.ensures.ends)

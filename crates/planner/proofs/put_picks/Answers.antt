@@ -1,21 +1,11 @@
 -- `planner::put_picks` meets its contract. Assumes nothing.
-use mathlib.Core.Path.{◌≡◌, sym, ap, ◌∙◌}
+use mathlib.Core.Path.{◌≡◌, ap, ◌∙◌}
 use mathlib.Core.List.{◌++◌}
 use Prim.Native.Nat.{ℕ, ◌+◌}
 use native.Mathlib.Omega.{arith}
 use lib.ListN.{length, take, drop, length-take}
 use borrow.Author.Rules.{rules}
 use Rattle.planner.proofs.put_picks.Goals as goal
-
-pub slice_bounds-put_bytes-end : goal.slice_bounds-put_bytes-end
-slice_bounds-put_bytes-end c =
-    let l : length c.args.picks ≡ 32 = search rules in
-    sym (length-take c.args.m c.args.picks ∙ omega (arith, c.requires.0))
-
-pub put_bytes-requires : goal.put_bytes-requires
-put_bytes-requires c =
-    let l : length c.args.picks ≡ 32 = search rules in
-    omega (arith, length-take c.args.m c.args.picks)
 
 pub returns : goal.returns
 returns c =

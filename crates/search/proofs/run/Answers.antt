@@ -7,29 +7,18 @@ pub loop-p-init : goal.loop-p-init
 loop-p-init c =
     (start_fine c.args.p c.requires.0 c.args.allowance _ c.requires.1, start-here c.args.p c.requires.0 c.args.allowance _ c.args.reasons.now c.requires.2, refl)
 
-pub step-w-requires : goal.step-w-requires
-step-w-requires c = (c.requires.0, c.loop-p.invariant.0, c.requires.1)
-
-pub goes_on-requires : goal.goes_on-requires
-goes_on-requires c = tt
-
-pub shape_of-reasons-then-not-goes_on : goal.shape_of-reasons-then-not-goes_on
-shape_of-reasons-then-not-goes_on c =
-    let l = c.loop-p in
-    (run_ends c.args.p c.args.allowance l.s c.args.reasons.now l.reasons c.step-w.new.reasons c.step-w.result l.invariant.1 l.invariant.2 c.step-w.ensures (sym c.goes_on.ensures ∙ c.if-not-goes_on.true)).sized
-
 pub returns-then-not-goes_on : goal.returns-then-not-goes_on
 returns-then-not-goes_on c =
     let l = c.loop-p in
-    run_ends c.args.p c.args.allowance l.s c.args.reasons.now l.reasons c.step-w.new.reasons c.step-w.result l.invariant.1 l.invariant.2 c.step-w.ensures (sym c.goes_on.ensures ∙ c.if-not-goes_on.true)
+    run_ends _ _ _ _ _ _ _ l.invariant.1 l.invariant.2 c.step-w.ensures (sym c.goes_on.ensures ∙ c.if-not-goes_on.true)
 
 pub loop-p-smaller : goal.loop-p-smaller
 loop-p-smaller c =
     let l = c.loop-p in
-    (run-goes c.args.p c.args.allowance l.s c.args.reasons.now l.reasons c.step-w.new.reasons c.step-w.result l.invariant.1 l.invariant.2 c.step-w.ensures (sym c.goes_on.ensures ∙ c.if-not-goes_on.false)).nearer
+    (run-goes _ _ _ _ _ _ _ l.invariant.1 l.invariant.2 c.step-w.ensures (sym c.goes_on.ensures ∙ c.if-not-goes_on.false)).nearer
 
 pub loop-p-preserved : goal.loop-p-preserved
 loop-p-preserved c =
     let l = c.loop-p in
-    let g = run-goes c.args.p c.args.allowance l.s c.args.reasons.now l.reasons c.step-w.new.reasons c.step-w.result l.invariant.1 l.invariant.2 c.step-w.ensures (sym c.goes_on.ensures ∙ c.if-not-goes_on.false) in
+    let g = run-goes _ _ _ _ _ _ _ l.invariant.1 l.invariant.2 c.step-w.ensures (sym c.goes_on.ensures ∙ c.if-not-goes_on.false) in
     (g.fine, g.here, c.step-w.ensures.sized ∙ l.invariant.2)

@@ -21,17 +21,15 @@ put_cycles-rows-requires c =
 
 pub returns-then-d-p : goal.returns-then-d-p
 returns-then-d-p c =
-    let long-picks : length c.args.s.picks ≡ 32 = (search rules) in
     let d = c.first_dead-d in
     let marked : c.put_row.new.reasons ≡ put_row c.args.reasons.now c.args.s.rows (mark_row row_bytes (dead_mark + d.result)) = c.put_row.ensures ∙ ap (put_row c.args.reasons.now c.args.s.rows) c.mark_row-mark.ensures in
     let size : length c.put_cycles-rows.new.reasons ≡ length c.put_row.new.reasons = c.put_cycles-rows.auto.reasons in
-    visits-dead c.args.p c.requires.0 c.args.f c.args.s (long-picks) c.args.reasons.now d.result c.put_cycles-rows.result c.put_cycles-rows.new.reasons c.leave.result d.ensures c.if-d-p.true
+    visits-dead c.args.p c.requires.0 c.args.f c.args.s (search rules) c.args.reasons.now d.result c.put_cycles-rows.result c.put_cycles-rows.new.reasons c.leave.result d.ensures c.if-d-p.true
     (subst (λ (m : List ℕ). Keeps m c.put_cycles-rows.new.reasons (c.args.s.rows + 1) (map (λ x. cycle (x ∷ facts_in c.args.p c.args.f)) (clause_of c.args.p d.result))) marked c.put_cycles-rows.ensures.0)
     (size ∙ ap length marked) c.put_cycles-rows.ensures.1 c.leave.ensures
 
 pub returns : goal.returns
 returns c =
-    let long-picks : length c.args.s.picks ≡ 32 = (search rules) in
     let d = c.first_dead-d in
     let marked : c.put_row-2.new.reasons ≡ put_row c.args.reasons.now c.args.s.rows (mark_row row_bytes onward_mark) = c.put_row-2.ensures ∙ ap (put_row c.args.reasons.now c.args.s.rows) c.mark_row-mark-2.ensures in
-    visits-open c.args.p c.requires.0 c.args.f c.args.s (long-picks) c.args.reasons.now d.result c.put_row-2.new.reasons marked d.ensures (omega (arith, c.if-d-p.false)) c.requires.3
+    visits-open c.args.p c.requires.0 c.args.f c.args.s (search rules) c.args.reasons.now d.result c.put_row-2.new.reasons marked d.ensures (omega (arith, c.if-d-p.false)) c.requires.3

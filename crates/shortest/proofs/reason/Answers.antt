@@ -2,19 +2,10 @@
 use mathlib.Core.Path.{◌≡◌}
 use native.Mathlib.Omega.{arith}
 use borrow.Author.Rules.{rules}
-use Rattle.meaning.specs.Limits.{most_events}
-use Rattle.facts.proofs.Deciding.{within_more}
-use Rattle.shortest.proofs.Choosing.{best-start, best-new, best-old}
+use Rattle.shortest.proofs.Choosing.{best-new, best-old}
 use Rattle.shortest.proofs.Naming.{best-names}
 use Rattle.shortest.proofs.reason.Goals as goal
 use Rattle.shortest.proofs.reason.Goals.{then-goes_before, else-goes_before}
-
-pub loop-t-init : goal.loop-t-init
-loop-t-init c = (best-start _ _ _ _, search rules, omega arith)
-
-pub look-new-requires : goal.look-new-requires
-look-new-requires c =
-    (within_more _ c.args.facts.now c.args.n most_events c.requires.2 c.requires.0, c.requires.1, omega arith, omega (arith, c.smaller-most.ensures.1), search rules)
 
 pub loop-t-preserved : goal.loop-t-preserved
 loop-t-preserved c =

@@ -1,17 +1,7 @@
 -- `taking::fits` meets its contract: the arc read is the fact that is looked up. Assumes nothing.
-use native.Mathlib.Omega.{arith}
 use Rattle.problem.specs.Arcs.{net, arc}
 use Rattle.taking.proofs.Lying.{arc-stands}
 use Rattle.taking.proofs.fits.Goals as goal
-
-pub fits_with-requires : goal.fits_with-requires
-fits_with-requires c = (
-  c.requires.0,
-  omega arith,
-  omega (arith, c.wide.ensures, c.requires.1.in_head),
-  omega (arith, c.wide-2.ensures, c.requires.1.in_tail),
-  c.requires.1.small,
-)
 
 pub returns : goal.returns
 returns c =

@@ -10,9 +10,6 @@ use Rattle.taking.proofs.is_dead.Goals.{then-fits, else-fits}
 pub loop-j-init : goal.loop-j-init
 loop-j-init c = (λ fs day. refl, c.requires.1)
 
-pub fits-requires : goal.fits-requires
-fits-requires c = (c.requires.0, c.requires.3 c.loop-j.j c.loop-j-test.true, omega arith, c.requires.4)
-
 pub loop-j-preserved : goal.loop-j-preserved
 loop-j-preserved c =
     let g = net c.args.xs.now c.args.ys.now c.args.bs.now in (

@@ -15,7 +15,6 @@ returns-then-fits c =
 
 pub returns-else-fits : goal.returns-else-fits
 returns-else-fits c =
-    let f = c.fits in
     let g = net c.args.xs.now c.args.ys.now c.args.bs.now in
     let j = c.args.j in
     record {
@@ -24,5 +23,5 @@ returns-else-fits c =
       before = c.requires.7;
       room = c.requires.0;
       fails = λ e. absurd (true≢false e);
-      day = λ e. implied-holds c.args.days.now c.args.base c.args.n (arc g j) (arc g (opposite_from + j)) c.requires.5 (c.requires.3.in_head, c.requires.3.in_tail) (c.requires.4.in_head, c.requires.4.in_tail) (arc-bounded g c.args.n (opposite_from + j) c.requires.4) f.result f.ensures c.if-fits.false;
+      day = λ e. implied-holds c.args.days.now c.args.base c.args.n (arc g j) (arc g (opposite_from + j)) c.requires.5 (c.requires.3.in_head, c.requires.3.in_tail) (c.requires.4.in_head, c.requires.4.in_tail) (arc-bounded g c.args.n (opposite_from + j) c.requires.4) c.fits.result c.fits.ensures c.if-fits.false;
     }

@@ -4,11 +4,8 @@ use Prim.Native.Nat.{ℕ}
 use native.Mathlib.Omega.{arith}
 use borrow.Author.Tests.{not-true, not-false}
 use Rattle.problem.specs.Arcs.{net}
-use Rattle.taking.proofs.Adding.{takes_none, Taking, taking-none, taking-held, taking-more, taking-fails, taking-ends}
+use Rattle.taking.proofs.Adding.{takes_none, Taking, taking-none, taking-more, taking-fails, taking-ends}
 use Rattle.taking.proofs.takes.Goals as goal
-
-pub fits-requires : goal.fits-requires
-fits-requires c = (omega arith, c.requires.4.own c.args.last (omega arith), omega (arith, c.requires.4.few), c.requires.5)
 
 pub returns-then-not-fits : goal.returns-then-not-fits
 returns-then-not-fits c =
@@ -18,21 +15,6 @@ returns-then-not-fits c =
 pub loop-j-init : goal.loop-j-init
 loop-j-init c =
     (omega arith, c.requires.3, omega arith, taking-none c.args.days.now c.args.from c.args.to c.args.n (net c.args.xs.now c.args.ys.now c.args.bs.now) c.args.first c.requires.1)
-
-pub passes-r-requires : goal.passes-r-requires
-passes-r-requires c =
-    let g = net c.args.xs.now c.args.ys.now c.args.bs.now in
-    let j = c.loop-j.j in (
-      c.loop-j.invariant.2,
-      omega (arith, c.loop-j.invariant.3.long),
-      c.requires.2,
-      c.requires.4.own j (omega arith),
-      c.requires.4.turned j (omega arith),
-      c.requires.4.opposites j (omega arith),
-      omega (arith, c.requires.4.few),
-      c.loop-j.invariant.3.before,
-      taking-held c.args.days.now c.args.from c.args.to c.args.n g c.args.first c.loop-j.days j c.loop-j.base c.loop-j.invariant.3 c.requires.5,
-    )
 
 pub returns-then-not-r : goal.returns-then-not-r
 returns-then-not-r c =
@@ -44,18 +26,6 @@ loop-j-preserved c =
     let g = net c.args.xs.now c.args.ys.now c.args.bs.now in
     let t = taking-more c.args.days.now c.args.from c.args.to c.args.n g c.args.first c.loop-j.days c.loop-j.j c.loop-j.base c.loop-j.invariant.3 c.passes-r.new.days c.passes-r.result c.loop-j.invariant.0 (not-false _ c.if-not-r.false) c.passes-r.ensures in
     (omega arith, omega arith, c.passes-r.ensures.room, t)
-
-pub adds-requires : goal.adds-requires
-adds-requires c =
-    let g = net c.args.xs.now c.args.ys.now c.args.bs.now in (
-      c.loop-j.invariant.2,
-      omega (arith, c.loop-j.invariant.3.long),
-      c.requires.2,
-      c.requires.4.own c.args.last (omega arith),
-      c.loop-j.invariant.3.before,
-      omega (arith, c.requires.4.few),
-      taking-held c.args.days.now c.args.from c.args.to c.args.n g c.args.first c.loop-j.days c.loop-j.j c.loop-j.base c.loop-j.invariant.3 c.requires.5,
-    )
 
 pub returns : goal.returns
 returns c =

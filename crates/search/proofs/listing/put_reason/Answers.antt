@@ -1,12 +1,8 @@
 -- `search::listing::put_reason` meets its contract: the row is worked out and put where there is room, and nothing is where there is none. Assumes nothing.
-use mathlib.Core.Path.{sym, ap, ◌∙◌}
+use mathlib.Core.Path.{sym}
 use native.Mathlib.Omega.{arith}
-use Rattle.search.specs.Listing.{put_row}
 use Rattle.search.proofs.Keeping.{put-not}
 use Rattle.search.proofs.listing.put_reason.Goals as goal
-
-pub returns-then-rows-reasons : goal.returns-then-rows-reasons
-returns-then-rows-reasons c = c.put_row.ensures ∙ ap (put_row c.args.reasons.now c.args.rows) c.reason-row.ensures
 
 pub returns-else-rows-reasons : goal.returns-else-rows-reasons
 returns-else-rows-reasons c = sym (put-not c.args.reasons.now c.args.rows _ (omega arith))

@@ -1,42 +1,34 @@
 -- `search::places::rank_of` meets its contract: the rank of the positions from i on among the clauses from i on, and their product. Assumes nothing.
 use mathlib.Core.Path.{◌≡◌, sym, ap, ◌∙◌}
-use Prim.Native.Nat.{ℕ, ◌+◌, ◌-◌, ◌*◌, ◌≤◌}
+use mathlib.Core.List.{List}
+use Prim.Native.Nat.{ℕ, ◌+◌, ◌-◌, ◌*◌, ◌^◌, ◌<◌, ◌≤◌}
 use native.Mathlib.Omega.{arith}
 use lib.ListN.{length, take, drop}
 use borrow.Author.Rules.{rules}
 use Rattle.meaning.specs.Plain.{product, rank}
-use Rattle.problem.specs.Laid.{clauses_from}
+use Rattle.problem.specs.declared.Problem.{Problem}
+use Rattle.problem.specs.Arcs.{at}
+use Rattle.problem.specs.Laid.{clauses_from, Laid}
+use Rattle.search.specs.Standing.{Inside}
+use Rattle.search.proofs.Numbers.{picks-enough}
 use Rattle.search.proofs.Ranks.{product_small, product-grown, rank-grown, rank-small, rank-end}
 use Rattle.search.proofs.places.rank_of.Goals as goal
 
-pub under-all-requires : goal.under-all-requires
-under-all-requires c = (c.requires.0, c.requires.1.few)
+-- the rank with the pick before position i counted too, which is small enough
+counted : {p : Problem} {picks : List ℕ} {k i all before pick : ℕ} → Laid p → Inside p picks k → length picks ≡ 32 → 0 < i → (all ≡ product (clauses_from p i (p.m - i))) × (before ≡ rank (clauses_from p i (p.m - i)) (drop i (take k picks))) × (i ≤ k) → pick ≡ at picks (i - 1) → (pick * all + before ≡ rank (clauses_from p (i - 1) (p.m - (i - 1))) (drop (i - 1) (take k picks))) × (pick * all + before ≤ 2 ^ 63)
+counted {p} {picks} {k} {i} {all} {before} {pick} laid inside long some h e =
+    let enough = picks-enough laid inside long in
+    let grown : pick * all + before ≡ rank (clauses_from p (i - 1) (p.m - (i - 1))) (drop (i - 1) (take k picks)) = rank-grown p laid i all some (omega (arith, inside.few)) h.0 picks k pick before h.2 enough e h.1 in
+    (grown, omega (arith, rank-small p laid picks k (i - 1) inside enough (omega arith)))
 
 pub loop-i-init : goal.loop-i-init
 loop-i-init c = (c.under-all.ensures, sym (rank-end _ c.args.picks c.args.k), omega arith)
 
-pub bounds-picks-i : goal.bounds-picks-i
-bounds-picks-i c = omega (arith, c.requires.0.few, c.requires.1.few)
-
-pub wide-requires : goal.wide-requires
-wide-requires c = tt
-
 pub overflow_mul-before : goal.overflow_mul-before
-overflow_mul-before c =
-    let l = c.loop-i in
-    let long : c.args.k ≤ length c.args.picks = omega (arith, c.requires.0.few, c.requires.1.few, (let z : length c.args.picks ≡ 32 = search rules in z)) in
-    let grown : c.wide.result * l.all + l.before ≡ rank (clauses_from c.args.p (l.i - 1) (c.args.p.m - (l.i - 1))) (drop (l.i - 1) (take c.args.k c.args.picks)) = rank-grown c.args.p c.requires.0 l.i l.all (omega arith) (omega (arith, c.requires.1.few)) l.invariant.0 c.args.picks c.args.k _ l.before l.invariant.2 long c.wide.ensures l.invariant.1 in
-    omega (arith, rank-small c.args.p c.requires.0 c.args.picks c.args.k (l.i - 1) c.requires.1 long (omega arith))
+overflow_mul-before c = omega (arith, (counted c.requires.0 c.requires.1 (search rules) c.loop-i-test.true c.loop-i.invariant c.wide.ensures).1)
 
 pub overflow_add-before : goal.overflow_add-before
-overflow_add-before c =
-    let l = c.loop-i in
-    let long : c.args.k ≤ length c.args.picks = omega (arith, c.requires.0.few, c.requires.1.few, (let z : length c.args.picks ≡ 32 = search rules in z)) in
-    let grown : c.wide.result * l.all + l.before ≡ rank (clauses_from c.args.p (l.i - 1) (c.args.p.m - (l.i - 1))) (drop (l.i - 1) (take c.args.k c.args.picks)) = rank-grown c.args.p c.requires.0 l.i l.all (omega arith) (omega (arith, c.requires.1.few)) l.invariant.0 c.args.picks c.args.k _ l.before l.invariant.2 long c.wide.ensures l.invariant.1 in
-    omega (arith, rank-small c.args.p c.requires.0 c.args.picks c.args.k (l.i - 1) c.requires.1 long (omega arith))
-
-pub size-all-requires : goal.size-all-requires
-size-all-requires c = (c.requires.0, omega (arith, c.requires.1.few))
+overflow_add-before c = omega (arith, (counted c.requires.0 c.requires.1 (search rules) c.loop-i-test.true c.loop-i.invariant c.wide.ensures).1)
 
 pub overflow_mul-all : goal.overflow_mul-all
 overflow_mul-all c =
@@ -46,10 +38,11 @@ overflow_mul-all c =
 
 pub loop-i-preserved : goal.loop-i-preserved
 loop-i-preserved c =
-    let l = c.loop-i in
-    let long : c.args.k ≤ length c.args.picks = omega (arith, c.requires.0.few, c.requires.1.few, (let z : length c.args.picks ≡ 32 = search rules in z)) in
-    let grown : c.wide.result * l.all + l.before ≡ rank (clauses_from c.args.p (l.i - 1) (c.args.p.m - (l.i - 1))) (drop (l.i - 1) (take c.args.k c.args.picks)) = rank-grown c.args.p c.requires.0 l.i l.all (omega arith) (omega (arith, c.requires.1.few)) l.invariant.0 c.args.picks c.args.k _ l.before l.invariant.2 long c.wide.ensures l.invariant.1 in
-    (product-grown c.args.p c.requires.0 l.i l.all (omega arith) (omega (arith, c.requires.1.few)) l.invariant.0 _ c.size-all.ensures, grown, omega arith)
+    let l = c.loop-i in (
+      product-grown c.args.p c.requires.0 l.i l.all (omega arith) (omega (arith, c.requires.1.few)) l.invariant.0 _ c.size-all.ensures,
+      (counted c.requires.0 c.requires.1 (search rules) c.loop-i-test.true l.invariant c.wide.ensures).0,
+      omega arith,
+    )
 
 pub returns : goal.returns
 returns c =

@@ -10,9 +10,6 @@ use Rattle.search.proofs.places.under.Goals as goal
 pub loop-i-init : goal.loop-i-init
 loop-i-init c = (sym (product-end c.args.p), c.requires.1, omega arith)
 
-pub size-all-requires : goal.size-all-requires
-size-all-requires c = (c.requires.0, omega arith)
-
 pub overflow_mul-all : goal.overflow_mul-all
 overflow_mul-all c =
     let i = c.loop-i.i in

@@ -13,9 +13,6 @@ pub loop-d-init : goal.loop-d-init
 loop-d-init c =
     (ahead-zero _ ∙ ap (λ (n : ℕ). ahead n (first_dead sound (facts_in c.args.p c.args.f) (clauses_from c.args.p c.args.k (c.args.p.m - c.args.k)))) (let e : 0 ≡ c.args.k - c.args.k = omega arith in e), omega arith, c.requires.2)
 
-pub is_dead-requires : goal.is_dead-requires
-is_dead-requires c = (c.requires.0, c.requires.1, omega arith)
-
 pub returns-then-is_dead : goal.returns-then-is_dead
 returns-then-is_dead c =
     let i = c.loop-d.invariant in

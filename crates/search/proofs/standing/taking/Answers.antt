@@ -1,54 +1,17 @@
 -- `search::standing::taking` meets its contract: what is still to be taken, put before what is held, stays the same. Assumes nothing.
-use mathlib.Core.Path.{◌≡◌, refl, sym, ap, ◌∙◌}
-use Prim.Native.Nat.{ℕ, ◌+◌, ◌-◌, ◌<◌}
+use mathlib.Core.Path.{◌≡◌, sym, ap, ◌∙◌}
+use Prim.Native.Nat.{ℕ, ◌+◌, ◌-◌}
 use native.Mathlib.Omega.{arith}
 use Rattle.problem.specs.Arcs.{at}
-use Rattle.problem.proofs.Laying.{position-below}
 use Rattle.held.specs.Held.{held}
 use Rattle.search.specs.Standing.{takes}
 use Rattle.search.proofs.Numbers.{takes_step, takes-last}
 use Rattle.search.proofs.standing.taking.Goals as goal
 
-pub bounds-starts-k : goal.bounds-starts-k
-bounds-starts-k c = omega (arith, c.requires.0.few)
-
-pub overflow_add-last : goal.overflow_add-last
-overflow_add-last c =
-    let l : at c.args.p.starts c.args.k + c.args.pick < at c.args.p.starts c.args.p.m = position-below c.args.p c.requires.0 c.args.k c.requires.1 c.args.pick c.requires.2 in
-    let most = c.requires.0.last in
-    omega arith
-
-pub loop-j-init : goal.loop-j-init
-loop-j-init c = (refl, refl, omega arith, omega arith)
-
-pub overflow_add-j : goal.overflow_add-j
-overflow_add-j c =
-    let l : at c.args.p.starts c.args.k + c.args.pick < at c.args.p.starts c.args.p.m = position-below c.args.p c.requires.0 c.args.k c.requires.1 c.args.pick c.requires.2 in
-    let most = c.requires.0.last in
-    omega arith
-
-pub put-more-requires : goal.put-more-requires
-put-more-requires c =
-    let l : at c.args.p.starts c.args.k + c.args.pick < at c.args.p.starts c.args.p.m = position-below c.args.p c.requires.0 c.args.k c.requires.1 c.args.pick c.requires.2 in
-    let most = c.requires.0.last in
-    (omega (arith, c.requires.4), omega (arith, c.requires.3))
-
-pub overflow_add-j-in-loop-j : goal.overflow_add-j-in-loop-j
-overflow_add-j-in-loop-j c =
-    let l : at c.args.p.starts c.args.k + c.args.pick < at c.args.p.starts c.args.p.m = position-below c.args.p c.requires.0 c.args.k c.requires.1 c.args.pick c.requires.2 in
-    let most = c.requires.0.last in
-    omega arith
-
 pub loop-j-preserved : goal.loop-j-preserved
 loop-j-preserved c =
     let i = c.loop-j.invariant in
     (ap (takes _ _) c.put-more.ensures.0 ∙ sym (takes_step (held c.loop-j.g) c.loop-j.j _ c.loop-j-test.true) ∙ i.0, omega (arith, c.put-more.ensures.1), omega arith, omega arith)
-
-pub put-requires : goal.put-requires
-put-requires c =
-    let l : at c.args.p.starts c.args.k + c.args.pick < at c.args.p.starts c.args.p.m = position-below c.args.p c.requires.0 c.args.k c.requires.1 c.args.pick c.requires.2 in
-    let most = c.requires.0.last in
-    (omega (arith, c.requires.4), omega (arith, c.requires.3))
 
 pub returns : goal.returns
 returns c =

@@ -11,9 +11,6 @@ use Rattle.shortest.proofs.Reaching.{turned-within}
 use Rattle.shortest.proofs.Targets.{start-below, row_under, round-height}
 use Rattle.shortest.proofs.heights.rounds_to.Goals as goal
 
-pub start_at-requires : goal.start_at-requires
-start_at-requires c = c.requires.2
-
 pub loop-r-init : goal.loop-r-init
 loop-r-init c =
     (rounds-first _ _ _ _ (get_or-set_same c.args.tab.now 0 _ [] (omega arith) ∙ c.start_at.ensures) _ (omega arith), start-below _ _ c.args.t c.requires.2, simp length-set (omega arith), omega arith)
@@ -23,9 +20,6 @@ round_of-nxt-requires c =
     let l = c.loop-r in
     let w = turned-within _ c.args.facts.now most_events c.requires.0 c.requires.1 in
     (w, row_under _ _ c.args.t l.tab l.r l.invariant.0 w c.requires.2 (omega arith))
-
-pub shape_of-tab-then-nxt-t-gt-HIGHEST : goal.shape_of-tab-then-nxt-t-gt-HIGHEST
-shape_of-tab-then-nxt-t-gt-HIGHEST c = simp length-set (omega arith)
 
 pub returns-then-nxt-t-gt-HIGHEST : goal.returns-then-nxt-t-gt-HIGHEST
 returns-then-nxt-t-gt-HIGHEST c =

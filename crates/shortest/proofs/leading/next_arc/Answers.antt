@@ -7,9 +7,6 @@ use Rattle.shortest.proofs.leading.next_arc.Goals.{then-j-best+then-leads, then-
 pub loop-i-init : goal.loop-i-init
 loop-i-init c = picking-start _ _ _ _ _ _ (omega arith)
 
-pub leads-requires : goal.leads-requires
-leads-requires c = rw c.wide.ensures (c.requires.0.known.each c.loop-i.i (omega arith), c.requires.1, c.requires.2)
-
 pub loop-i-preserved : goal.loop-i-preserved
 loop-i-preserved c =
     let l = c.loop-i in

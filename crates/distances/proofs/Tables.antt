@@ -26,6 +26,10 @@ pub record Extending (r s : List ℕ) (from to w n x y b u : ℕ) : Type 0 where
 pub row-past : (w i j : ℕ) → i < j → i * w + w ≤ j * w
 row-past w i j l = omega (arith, mul-le-mul_right w (let h : suc i ≤ j = l in h), suc-mul i w)
 
+-- the row of a turn lies in the table
+pub row_in : (row u w n : ℕ) → row ≡ u * w → u < n → row + w ≤ n * w
+row_in row u w n e l = omega (arith, row-past w u n l, e)
+
 -- two places of a table are the same only for the same entry
 pub same_place : (w u v i j : ℕ) → v < w → j < w → u * w + v ≡ i * w + j → (u ≡ i) × (v ≡ j)
 same_place w u v i j a b e =

@@ -1,95 +1,57 @@
 -- `extend` meets its contract. Assumes nothing.
 use mathlib.Core.Path.{◌≡◌, sym, ap, ◌∙◌}
-use Prim.Native.Nat.{ℕ, ◌+◌, ◌*◌, ◌<◌, ◌≤◌}
+use Prim.Native.Nat.{ℕ, ◌+◌, ◌*◌}
 use native.Mathlib.Nat.{zero-mul}
 use native.Mathlib.Omega.{arith}
 use Rattle.problem.specs.Arcs.{at}
 use Rattle.distances.specs.Numbers.{shift}
 use Rattle.distances.proofs.Numbers.{place}
-use Rattle.distances.proofs.Tables.{extending-none, extending-all, extending-more, clear-own, clear-through, row-past, row_next}
+use Rattle.distances.proofs.Tables.{extending-none, extending-all, extending-more, clear-own, clear-through, row-past, row_in, row_next}
 use Rattle.distances.proofs.Meaning.{extended-holds}
 use Rattle.distances.proofs.extend.Goals as goal
 
--- src/lib.rt:76:23
 pub overflow_mul-past : goal.overflow_mul-past
-overflow_mul-past c = omega (arith, place c.args.n c.args.w c.args.x c.args.y (omega arith) (omega arith))
+overflow_mul-past c = grind (arith, place)
 
--- src/lib.rt:76:16
 pub overflow_add-past : goal.overflow_add-past
-overflow_add-past c = omega (arith, place c.args.n c.args.w c.args.x c.args.y (omega arith) (omega arith))
+overflow_add-past c = grind (arith, place)
 
--- src/lib.rt:79:5
 pub loop-u-init : goal.loop-u-init
 loop-u-init c = (omega arith, (sym (zero-mul c.args.w), extending-none _ _ _ _ _ _ _ _))
 
--- src/lib.rt:80:36
 pub overflow_add-row : goal.overflow_add-row
-overflow_add-row c =
-    let row_in : c.loop-u.row + c.args.w ≤ c.args.n * c.args.w = (omega (arith, row-past c.args.w c.loop-u.u c.args.n (omega arith), c.loop-u.invariant.1.0)) in
-    let inside : c.loop-u.row + c.args.y < c.args.n * c.args.w = (omega (arith, row_in)) in
-    omega (arith, inside)
+overflow_add-row c = omega (arith, row_in _ _ _ _ c.loop-u.invariant.1.0 c.loop-u-test.true)
 
--- src/lib.rt:80:28
 pub overflow_add-from : goal.overflow_add-from
-overflow_add-from c =
-    let row_in : c.loop-u.row + c.args.w ≤ c.args.n * c.args.w = (omega (arith, row-past c.args.w c.loop-u.u c.args.n (omega arith), c.loop-u.invariant.1.0)) in
-    let inside : c.loop-u.row + c.args.y < c.args.n * c.args.w = (omega (arith, row_in)) in
-    omega (arith, inside)
+overflow_add-from c = omega (arith, row_in _ _ _ _ c.loop-u.invariant.1.0 c.loop-u-test.true)
 
--- src/lib.rt:80:26
 pub offset_bounds-s-from : goal.offset_bounds-s-from
-offset_bounds-s-from c =
-    let row_in : c.loop-u.row + c.args.w ≤ c.args.n * c.args.w = (omega (arith, row-past c.args.w c.loop-u.u c.args.n (omega arith), c.loop-u.invariant.1.0)) in
-    let inside : c.loop-u.row + c.args.y < c.args.n * c.args.w = (omega (arith, row_in)) in
-    omega (arith, inside)
+offset_bounds-s-from c = omega (arith, row_in _ _ _ _ c.loop-u.invariant.1.0 c.loop-u-test.true)
 
--- src/lib.rt:80:26
 pub bounds-s-from : goal.bounds-s-from
-bounds-s-from c =
-    let row_in : c.loop-u.row + c.args.w ≤ c.args.n * c.args.w = (omega (arith, row-past c.args.w c.loop-u.u c.args.n (omega arith), c.loop-u.invariant.1.0)) in
-    let inside : c.loop-u.row + c.args.y < c.args.n * c.args.w = (omega (arith, row_in)) in
-    omega (arith, inside)
+bounds-s-from c = omega (arith, row_in _ _ _ _ c.loop-u.invariant.1.0 c.loop-u-test.true)
 
--- src/lib.rt:80:13
-pub shift_of-t-requires : goal.shift_of-t-requires
-shift_of-t-requires c = c.requires.6
-
--- src/lib.rt:81:22
 pub overflow_add-from-in-loop-u : goal.overflow_add-from-in-loop-u
-overflow_add-from-in-loop-u c =
-    let row_in : c.loop-u.row + c.args.w ≤ c.args.n * c.args.w = (omega (arith, row-past c.args.w c.loop-u.u c.args.n (omega arith), c.loop-u.invariant.1.0)) in
-    let inside : c.loop-u.row + c.args.y < c.args.n * c.args.w = (omega (arith, row_in)) in
-    omega (arith, inside)
+overflow_add-from-in-loop-u c = omega (arith, row_in _ _ _ _ c.loop-u.invariant.1.0 c.loop-u-test.true)
 
--- src/lib.rt:81:34
 pub overflow_add-to : goal.overflow_add-to
-overflow_add-to c =
-    let row_in : c.loop-u.row + c.args.w ≤ c.args.n * c.args.w = (omega (arith, row-past c.args.w c.loop-u.u c.args.n (omega arith), c.loop-u.invariant.1.0)) in
-    let inside : c.loop-u.row + c.args.y < c.args.n * c.args.w = (omega (arith, row_in)) in
-    omega (arith, inside)
+overflow_add-to c = omega (arith, row_in _ _ _ _ c.loop-u.invariant.1.0 c.loop-u-test.true)
 
--- src/lib.rt:81:9
 pub lower_row-requires : goal.lower_row-requires
 lower_row-requires c =
-    let row_in : c.loop-u.row + c.args.w ≤ c.args.n * c.args.w = (omega (arith, row-past c.args.w c.loop-u.u c.args.n (omega arith), c.loop-u.invariant.1.0)) in
-    let end-in : c.args.x * c.args.w + c.args.w ≤ c.args.n * c.args.w = (row-past c.args.w c.args.x c.args.n (omega arith)) in
     let own = clear-own _ _ _ _ _ _ _ _ c.requires.2 c.requires.3 c.requires.4 c.requires.7 c.loop-u.u (omega arith) in
     let through = clear-through _ _ _ _ _ _ _ _ c.requires.2 c.requires.3 c.requires.4 c.requires.7 c.loop-u.u (omega arith) in (
-      omega (arith, row_in),
-      omega (arith, row_in),
-      omega (arith, end-in),
+      omega (arith, row_in _ _ _ _ c.loop-u.invariant.1.0 c.loop-u-test.true),
+      omega (arith, row_in _ _ _ _ c.loop-u.invariant.1.0 c.loop-u-test.true),
+      omega (arith, row-past c.args.w c.args.x c.args.n (omega arith)),
       c.shift_of-t.ensures.1,
       rw (← c.loop-u.invariant.1.0) at own,
       rw (← c.loop-u.invariant.1.0) at through,
     )
 
--- src/lib.rt:82:9
 pub overflow_add-row-in-loop-u : goal.overflow_add-row-in-loop-u
-overflow_add-row-in-loop-u c =
-    let row_in : c.loop-u.row + c.args.w ≤ c.args.n * c.args.w = (omega (arith, row-past c.args.w c.loop-u.u c.args.n (omega arith), c.loop-u.invariant.1.0)) in
-    omega (arith, row_in)
+overflow_add-row-in-loop-u c = omega (arith, row_in _ _ _ _ c.loop-u.invariant.1.0 c.loop-u-test.true)
 
--- src/lib.rt:79:5
 pub loop-u-preserved : goal.loop-u-preserved
 loop-u-preserved c =
     let q : c.loop-u.row ≡ c.loop-u.u * c.args.w = c.loop-u.invariant.1.0 in (
@@ -102,7 +64,6 @@ loop-u-preserved c =
       ),
     )
 
--- src/lib.rt:72:1
 pub returns : goal.returns
 returns c =
     let e : c.loop-u.u ≡ c.args.n = omega arith in

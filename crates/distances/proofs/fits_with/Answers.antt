@@ -1,10 +1,10 @@
 -- `fits_with` meets its contract. Assumes nothing.
 use mathlib.Core.Path.{◌≡◌, refl, sym, ◌∙◌}
 use mathlib.Core.Bool.{true}
-use lib.Dec.{leb}
-use Prim.Native.Nat.{◌+◌, ◌*◌, ◌<◌}
+use Prim.Native.Nat.{◌+◌, ◌*◌}
 use native.Mathlib.Omega.{arith}
 use borrow.Author.Tests.{le-leb}
+use lib.Dec.{leb}
 use Rattle.problem.specs.Arcs.{at}
 use Rattle.distances.specs.Numbers.{turn}
 use Rattle.distances.proofs.Numbers.{place}
@@ -12,33 +12,19 @@ use Rattle.distances.proofs.Meaning.{fits-means}
 use Rattle.distances.proofs.fits_with.Goals as goal
 
 pub overflow_mul-e : goal.overflow_mul-e
-overflow_mul-e c =
-    let inside : c.args.x * c.args.w + c.args.y < c.args.n * c.args.w = (place c.args.n c.args.w c.args.x c.args.y c.requires.2 (omega arith)) in
-    omega (arith, inside)
+overflow_mul-e c = grind (arith, place)
 
--- src/lib.rt:67:23
 pub overflow_add-e : goal.overflow_add-e
-overflow_add-e c =
-    let inside : c.args.x * c.args.w + c.args.y < c.args.n * c.args.w = (place c.args.n c.args.w c.args.x c.args.y c.requires.2 (omega arith)) in
-    omega (arith, inside)
+overflow_add-e c = grind (arith, place)
 
--- src/lib.rt:67:15
 pub overflow_add-e-2 : goal.overflow_add-e-2
-overflow_add-e-2 c =
-    let inside : c.args.x * c.args.w + c.args.y < c.args.n * c.args.w = (place c.args.n c.args.w c.args.x c.args.y c.requires.2 (omega arith)) in
-    omega (arith, inside)
+overflow_add-e-2 c = grind (arith, place)
 
--- src/lib.rt:67:13
 pub offset_bounds-s-base : goal.offset_bounds-s-base
-offset_bounds-s-base c =
-    let inside : c.args.x * c.args.w + c.args.y < c.args.n * c.args.w = (place c.args.n c.args.w c.args.x c.args.y c.requires.2 (omega arith)) in
-    omega (arith, inside)
+offset_bounds-s-base c = grind (arith, place)
 
--- src/lib.rt:67:13
 pub bounds-s-base : goal.bounds-s-base
-bounds-s-base c =
-    let inside : c.args.x * c.args.w + c.args.y < c.args.n * c.args.w = (place c.args.n c.args.w c.args.x c.args.y c.requires.2 (omega arith)) in
-    omega (arith, inside)
+bounds-s-base c = grind (arith, place)
 
 pub returns-then-e-ge-TURN : goal.returns-then-e-ge-TURN
 returns-then-e-ge-TURN c =

@@ -1,10 +1,10 @@
 -- `latest_of` meets its contract. Assumes nothing.
 use mathlib.Core.Path.{◌≡◌, refl, sym}
-use Prim.Native.Nat.{◌+◌, ◌*◌, ◌≤◌}
+use Prim.Native.Nat.{◌*◌}
 use native.Mathlib.Nat.{zero-mul}
 use native.Mathlib.Omega.{arith}
 use Rattle.distances.specs.Numbers.{minutes_of}
-use Rattle.distances.proofs.Tables.{row-past, row_next}
+use Rattle.distances.proofs.Tables.{row_in, row_next}
 use Rattle.distances.proofs.Minutes.{minutes-more}
 use Rattle.distances.proofs.latest_of.Goals as goal
 
@@ -12,29 +12,19 @@ pub loop-u-init : goal.loop-u-init
 loop-u-init c = (omega arith, (sym (zero-mul _), unfold minutes_of in refl))
 
 pub overflow_add-row : goal.overflow_add-row
-overflow_add-row c =
-    let row_in : c.loop-u.row + c.args.w ≤ c.args.n * c.args.w = (omega (arith, row-past c.args.w c.loop-u.u c.args.n (omega arith), c.loop-u.invariant.1.0)) in
-    omega (arith, row_in)
+overflow_add-row c = omega (arith, row_in _ _ _ _ c.loop-u.invariant.1.0 c.loop-u-test.true)
 
 pub overflow_add-base : goal.overflow_add-base
-overflow_add-base c =
-    let row_in : c.loop-u.row + c.args.w ≤ c.args.n * c.args.w = (omega (arith, row-past c.args.w c.loop-u.u c.args.n (omega arith), c.loop-u.invariant.1.0)) in
-    omega (arith, row_in)
+overflow_add-base c = omega (arith, row_in _ _ _ _ c.loop-u.invariant.1.0 c.loop-u-test.true)
 
 pub offset_bounds-s-base : goal.offset_bounds-s-base
-offset_bounds-s-base c =
-    let row_in : c.loop-u.row + c.args.w ≤ c.args.n * c.args.w = (omega (arith, row-past c.args.w c.loop-u.u c.args.n (omega arith), c.loop-u.invariant.1.0)) in
-    omega (arith, row_in)
+offset_bounds-s-base c = omega (arith, row_in _ _ _ _ c.loop-u.invariant.1.0 c.loop-u-test.true)
 
 pub bounds-s-base : goal.bounds-s-base
-bounds-s-base c =
-    let row_in : c.loop-u.row + c.args.w ≤ c.args.n * c.args.w = (omega (arith, row-past c.args.w c.loop-u.u c.args.n (omega arith), c.loop-u.invariant.1.0)) in
-    omega (arith, row_in)
+bounds-s-base c = omega (arith, row_in _ _ _ _ c.loop-u.invariant.1.0 c.loop-u-test.true)
 
 pub overflow_add-row-in-loop-u : goal.overflow_add-row-in-loop-u
-overflow_add-row-in-loop-u c =
-    let row_in : c.loop-u.row + c.args.w ≤ c.args.n * c.args.w = (omega (arith, row-past c.args.w c.loop-u.u c.args.n (omega arith), c.loop-u.invariant.1.0)) in
-    omega (arith, row_in)
+overflow_add-row-in-loop-u c = omega (arith, row_in _ _ _ _ c.loop-u.invariant.1.0 c.loop-u-test.true)
 
 pub loop-u-preserved : goal.loop-u-preserved
 loop-u-preserved c =

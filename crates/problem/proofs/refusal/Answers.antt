@@ -1,11 +1,12 @@
 -- `problem::refusal` meets its contract. Assumes nothing.
-use mathlib.Core.Path.{◌≡◌, refl, sym, ◌∙◌}
+use mathlib.Core.Path.{◌≡◌, refl, ◌∙◌}
+use mathlib.Core.Bool.{Bool, true, false}
 use mathlib.Core.List.{List, [], ◌∷◌}
-use Prim.Native.Nat.{ℕ, ◌*◌, ◌/◌}
+use Prim.Native.Nat.{ℕ, ◌≤◌, ◌*◌, ◌/◌, ◌%◌}
 use native.Mathlib.Omega.{arith}
+use borrow.Author.Tests.{lt-leb, le-leb, eq-eqb, ne_eqb}
 use lib.IntN.{ℤ}
 use lib.ListN.{length}
-use borrow.Author.Tests.{lt-leb, le-leb, eq-eqb, ne_eqb}
 use Rattle.meaning.specs.Limits.{most_events, most_clauses, most_alternatives}
 use Rattle.meaning.specs.Screen.{stepped, events, bounds, are_events, are_apart, is_bound, Test, problem_tests, first_failed, problem_refusal}
 use Rattle.problem.specs.Reads.{given}
@@ -23,6 +24,37 @@ of_events n ts = (5, events (are_events n) ts) ∷ of_pairs ts
 
 abbrev of_counts : ℕ → List ℤ → List ℕ → List Test
 of_counts n ts cs = (4, stepped (length ts / 3) 0 cs) ∷ of_events n ts
+
+-- n, the clauses and the triples are in their limits
+sized : (n : ℕ) (ts : List ℤ) (cs : List ℕ) → 1 ≤ n → n ≤ most_events → length cs ≤ most_clauses → length ts % 3 ≡ 0 → length ts ≤ 3 * most_alternatives → problem_refusal (given n ts cs) ≡ first_failed (of_counts n ts cs)
+unfolding problem_refusal problem_tests first_failed
+sized n ts cs some most clauses whole few =
+    rw (le-leb 1 n some, le-leb n most_events most, le-leb _ most_clauses clauses, eq-eqb _ 0 whole, le-leb _ (3 * most_alternatives) few) refl
+
+-- and the counts are in order
+counted : (n : ℕ) (ts : List ℤ) (cs : List ℕ) → problem_refusal (given n ts cs) ≡ first_failed (of_counts n ts cs) → stepped (length ts / 3) 0 cs ≡ true → problem_refusal (given n ts cs) ≡ first_failed (of_events n ts)
+unfolding first_failed
+counted n ts cs before e = before ∙ rw e refl
+
+-- and the event numbers lie below n
+named : (n : ℕ) (ts : List ℤ) (cs : List ℕ) → problem_refusal (given n ts cs) ≡ first_failed (of_events n ts) → events (are_events n) ts ≡ true → problem_refusal (given n ts cs) ≡ first_failed (of_pairs ts)
+unfolding first_failed
+named n ts cs before e = before ∙ rw e refl
+
+-- and no event is held against itself
+paired : (n : ℕ) (ts : List ℤ) (cs : List ℕ) → problem_refusal (given n ts cs) ≡ first_failed (of_pairs ts) → events are_apart ts ≡ true → problem_refusal (given n ts cs) ≡ first_failed (of_bounds ts)
+unfolding first_failed
+paired n ts cs before e = before ∙ rw e refl
+
+-- and the bounds are in their range
+bounded : (n : ℕ) (ts : List ℤ) (cs : List ℕ) → problem_refusal (given n ts cs) ≡ first_failed (of_bounds ts) → bounds is_bound ts ≡ true → problem_refusal (given n ts cs) ≡ 0
+unfolding first_failed
+bounded n ts cs before e = before ∙ rw e refl
+
+-- the first test that fails gives its number
+failed : (r : ℕ) {b : Bool} (more : List Test) → b ≡ false → first_failed ((r, b) ∷ more) ≡ r
+unfolding first_failed
+failed r more e = rw e refl
 
 pub returns-then-n-lt1 : goal.returns-then-n-lt1
 unfolding problem_refusal problem_tests first_failed
@@ -48,40 +80,16 @@ returns-then-triples c =
     rw (le-leb 1 _ c.if-n-lt1.false, le-leb c.args.n most_events (omega arith), le-leb _ most_clauses c.if-counts-gt-CLAUSES.false, eq-eqb _ 0 c.if-triples-ne0.false, lt-leb _ (3 * most_alternatives) c.if-triples.true) refl
 
 pub returns-then-not-steps : goal.returns-then-not-steps
-unfolding first_failed problem_refusal stepped problem_tests events
-returns-then-not-steps c =
-    let sized : let n = c.args.n in let ts = c.args.triples.now in let cs = c.args.counts.now in problem_refusal (given n ts cs) ≡ first_failed (of_counts n ts cs) = (rw (le-leb 1 _ c.if-n-lt1.false, le-leb c.args.n most_events (omega arith), le-leb _ most_clauses c.if-counts-gt-CLAUSES.false, eq-eqb _ 0 c.if-triples-ne0.false, le-leb _ (3 * most_alternatives) c.if-triples.false) refl) in
-    sym (sized ∙ rw (sym c.steps.ensures ∙ c.if-not-steps.true) refl)
+returns-then-not-steps c = grind (arith, sized, failed)
 
 pub returns-then-not-all_events : goal.returns-then-not-all_events
-unfolding first_failed problem_refusal stepped problem_tests events
-returns-then-not-all_events c =
-    let sized : let n = c.args.n in let ts = c.args.triples.now in let cs = c.args.counts.now in problem_refusal (given n ts cs) ≡ first_failed (of_counts n ts cs) = (rw (le-leb 1 _ c.if-n-lt1.false, le-leb c.args.n most_events (omega arith), le-leb _ most_clauses c.if-counts-gt-CLAUSES.false, eq-eqb _ 0 c.if-triples-ne0.false, le-leb _ (3 * most_alternatives) c.if-triples.false) refl) in
-    let counted : let n = c.args.n in let ts = c.args.triples.now in problem_refusal (given n ts c.args.counts.now) ≡ first_failed (of_events n ts) = (sized ∙ rw (sym c.steps.ensures ∙ c.if-not-steps.false) refl) in
-    sym (counted ∙ rw (sym c.all_events.ensures ∙ c.if-not-all_events.true) refl)
+returns-then-not-all_events c = grind (arith, sized, counted, failed)
 
 pub returns-then-not-all_apart : goal.returns-then-not-all_apart
-unfolding first_failed problem_refusal stepped problem_tests events
-returns-then-not-all_apart c =
-    let sized : let n = c.args.n in let ts = c.args.triples.now in let cs = c.args.counts.now in problem_refusal (given n ts cs) ≡ first_failed (of_counts n ts cs) = (rw (le-leb 1 _ c.if-n-lt1.false, le-leb c.args.n most_events (omega arith), le-leb _ most_clauses c.if-counts-gt-CLAUSES.false, eq-eqb _ 0 c.if-triples-ne0.false, le-leb _ (3 * most_alternatives) c.if-triples.false) refl) in
-    let counted : let n = c.args.n in let ts = c.args.triples.now in problem_refusal (given n ts c.args.counts.now) ≡ first_failed (of_events n ts) = (sized ∙ rw (sym c.steps.ensures ∙ c.if-not-steps.false) refl) in
-    let named : let ts = c.args.triples.now in problem_refusal (given c.args.n ts c.args.counts.now) ≡ first_failed (of_pairs ts) = (counted ∙ rw (sym c.all_events.ensures ∙ c.if-not-all_events.false) refl) in
-    sym (named ∙ rw (sym c.all_apart.ensures ∙ c.if-not-all_apart.true) refl)
+returns-then-not-all_apart c = grind (arith, sized, counted, named, failed)
 
 pub returns-then-not-all_bounds : goal.returns-then-not-all_bounds
-unfolding first_failed problem_refusal stepped problem_tests events
-returns-then-not-all_bounds c =
-    let sized : let n = c.args.n in let ts = c.args.triples.now in let cs = c.args.counts.now in problem_refusal (given n ts cs) ≡ first_failed (of_counts n ts cs) = (rw (le-leb 1 _ c.if-n-lt1.false, le-leb c.args.n most_events (omega arith), le-leb _ most_clauses c.if-counts-gt-CLAUSES.false, eq-eqb _ 0 c.if-triples-ne0.false, le-leb _ (3 * most_alternatives) c.if-triples.false) refl) in
-    let counted : let n = c.args.n in let ts = c.args.triples.now in problem_refusal (given n ts c.args.counts.now) ≡ first_failed (of_events n ts) = (sized ∙ rw (sym c.steps.ensures ∙ c.if-not-steps.false) refl) in
-    let named : let ts = c.args.triples.now in problem_refusal (given c.args.n ts c.args.counts.now) ≡ first_failed (of_pairs ts) = (counted ∙ rw (sym c.all_events.ensures ∙ c.if-not-all_events.false) refl) in
-    let paired : let ts = c.args.triples.now in problem_refusal (given c.args.n ts c.args.counts.now) ≡ first_failed (of_bounds ts) = (named ∙ rw (sym c.all_apart.ensures ∙ c.if-not-all_apart.false) refl) in
-    sym (paired ∙ rw (sym c.all_bounds.ensures ∙ c.if-not-all_bounds.true) refl)
+returns-then-not-all_bounds c = grind (arith, sized, counted, named, paired, failed)
 
 pub returns : goal.returns
-unfolding first_failed problem_refusal stepped problem_tests events
-returns c =
-    let sized : let n = c.args.n in let ts = c.args.triples.now in let cs = c.args.counts.now in problem_refusal (given n ts cs) ≡ first_failed (of_counts n ts cs) = (rw (le-leb 1 _ c.if-n-lt1.false, le-leb c.args.n most_events (omega arith), le-leb _ most_clauses c.if-counts-gt-CLAUSES.false, eq-eqb _ 0 c.if-triples-ne0.false, le-leb _ (3 * most_alternatives) c.if-triples.false) refl) in
-    let counted : let n = c.args.n in let ts = c.args.triples.now in problem_refusal (given n ts c.args.counts.now) ≡ first_failed (of_events n ts) = (sized ∙ rw (sym c.steps.ensures ∙ c.if-not-steps.false) refl) in
-    let named : let ts = c.args.triples.now in problem_refusal (given c.args.n ts c.args.counts.now) ≡ first_failed (of_pairs ts) = (counted ∙ rw (sym c.all_events.ensures ∙ c.if-not-all_events.false) refl) in
-    let paired : let ts = c.args.triples.now in problem_refusal (given c.args.n ts c.args.counts.now) ≡ first_failed (of_bounds ts) = (named ∙ rw (sym c.all_apart.ensures ∙ c.if-not-all_apart.false) refl) in
-    sym (paired ∙ rw (sym c.all_bounds.ensures ∙ c.if-not-all_bounds.false) refl)
+returns c = grind (arith, sized, counted, named, paired, bounded)

@@ -19,24 +19,6 @@ returns-then-p-d c =
     let later : c.args.k ≤ c.args.d = omega arith in
     record { is = sym (dead-past c.args.p _ _ _ c.requires.1.all _ _ later c.if-p-d.true); reached = tt }
 
-pub overflow_add-d : goal.overflow_add-d
-overflow_add-d c = omega (arith, c.requires.0.few)
-
-pub bounds-p-d : goal.bounds-p-d
-bounds-p-d c = omega (arith, c.requires.0.few)
-
-pub wide-end-requires : goal.wide-end-requires
-wide-end-requires c = tt
-
-pub bounds-p-d-2 : goal.bounds-p-d-2
-bounds-p-d-2 c = omega (arith, c.requires.0.few)
-
-pub wide-j-requires : goal.wide-j-requires
-wide-j-requires c = tt
-
-pub overflow_sub-first : goal.overflow_sub-first
-overflow_sub-first c = omega (arith, c.requires.0.ends c.args.k (omega arith), c.requires.0.last, c.requires.1.decided.few)
-
 pub loop-j-init : goal.loop-j-init
 loop-j-init c =
     let h : length c.args.facts ≡ 65 = search rules in
@@ -46,9 +28,6 @@ loop-j-init c =
 pub overflow_cast-known : goal.overflow_cast-known
 overflow_cast-known c =
     omega (arith, test-number _ c.requires.0 _ _ _ _ _ _ _ _ c.loop-j.invariant c.loop-j-test.true, c.requires.0.last)
-
-pub bounds-known-first : goal.bounds-known-first
-bounds-known-first c = omega (arith, c.loop-j.invariant.decided.within)
 
 pub cycle_at-requires : goal.cycle_at-requires
 cycle_at-requires c =

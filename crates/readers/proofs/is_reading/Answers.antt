@@ -14,9 +14,6 @@ reading-a-requires c =
 pub overflow_mul-r : goal.overflow_mul-r
 overflow_mul-r c = omega (arith, whole-reached (clauses_in c.args.p) c.args.list.now _ c.reading-a.ensures _ c.in-Row.is)
 
-pub blank_from-requires : goal.blank_from-requires
-blank_from-requires c = tt
-
 pub returns-in-No : goal.returns-in-No
 returns-in-No c = sym (whole-no (clauses_in c.args.p) c.args.list.now _ c.reading-a.ensures c.in-No.is)
 

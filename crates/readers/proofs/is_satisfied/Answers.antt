@@ -33,7 +33,7 @@ returns c =
     let tx = get_or c.args.times.now x.result (pos 0) in
     let ty = get_or c.args.times.now y.result (pos 0) in
     c.at_most.ensures
-    ∙ ap (λ (z : ℤ). le_z (z -ℤ to_z w32 (of_z w32 ty)) (sub_ℕ (at c.args.p.bs c.args.j) bias)) (element tx c.at_most-arg-1.given)
-    ∙ ap (λ (z : ℤ). le_z (tx -ℤ z) (sub_ℕ (at c.args.p.bs c.args.j) bias)) (element ty c.at_most-arg-2-1.given)
+    ∙ ap (λ (z : ℤ). le_z (z -ℤ to_z w32 (of_z w32 ty)) (sub_ℕ (at c.args.p.bs c.args.j) bias)) (element tx (search rules))
+    ∙ ap (λ (z : ℤ). le_z (tx -ℤ z) (sub_ℕ (at c.args.p.bs c.args.j) bias)) (element ty (search rules))
     ∙ ap (λ (e : ℕ). le_z (get_or c.args.times.now e (pos 0) -ℤ ty) (sub_ℕ (at c.args.p.bs c.args.j) bias)) x.ensures
     ∙ ap (λ (e : ℕ). le_z (get_or c.args.times.now (at c.args.p.xs c.args.j) (pos 0) -ℤ get_or c.args.times.now e (pos 0)) (sub_ℕ (at c.args.p.bs c.args.j) bias)) y.ensures

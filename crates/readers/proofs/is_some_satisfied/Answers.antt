@@ -6,21 +6,6 @@ use Rattle.readers.proofs.Clauses.{numbers}
 use Rattle.readers.proofs.Keeping.{some-here, some-later, some-none}
 use Rattle.readers.proofs.is_some_satisfied.Goals as goal
 
-pub overflow_add-k : goal.overflow_add-k
-overflow_add-k c = omega (arith, c.requires.0.few)
-
-pub bounds-p-k : goal.bounds-p-k
-bounds-p-k c = omega (arith, c.requires.0.few)
-
-pub wide-end-requires : goal.wide-end-requires
-wide-end-requires c = tt
-
-pub bounds-p-k-2 : goal.bounds-p-k-2
-bounds-p-k-2 c = omega (arith, c.requires.0.few)
-
-pub wide-j-requires : goal.wide-j-requires
-wide-j-requires c = tt
-
 pub loop-j-init : goal.loop-j-init
 loop-j-init c =
     let b = numbers c.args.p c.requires.0 c.args.k c.requires.2 in
@@ -35,9 +20,6 @@ is_satisfied-requires c = (c.requires.0.alternative c.loop-j.j (omega (arith, c.
 pub returns-then-is_satisfied : goal.returns-then-is_satisfied
 returns-then-is_satisfied c =
     sym (c.loop-j.invariant.2 ∙ some-here _ _ _ _ c.loop-j-test.true (sym c.is_satisfied.ensures ∙ c.if-is_satisfied.true))
-
-pub overflow_add-j : goal.overflow_add-j
-overflow_add-j c = omega (arith, c.requires.0.last)
 
 pub loop-j-preserved : goal.loop-j-preserved
 loop-j-preserved c =

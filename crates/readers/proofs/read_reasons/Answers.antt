@@ -5,9 +5,6 @@ use Rattle.problem.specs.Reads.{given}
 use Rattle.readers.proofs.Saying.{reasons-refused, reasons-said}
 use Rattle.readers.proofs.read_reasons.Goals as goal
 
-pub check-c-requires : goal.check-c-requires
-check-c-requires c = tt
-
 pub returns-then-number-ne0 : goal.returns-then-number-ne0
 returns-then-number-ne0 c =
     reasons-refused (given c.args.n c.args.triples.now c.args.counts.now) _ c.check-c.ensures.number_value c.if-number-ne0.true _

@@ -5,9 +5,6 @@ use Rattle.problem.specs.Reads.{given}
 use Rattle.readers.proofs.Saying.{timetable-refused, timetable-short, timetable-said}
 use Rattle.readers.proofs.read_timetable.Goals as goal
 
-pub check-c-requires : goal.check-c-requires
-check-c-requires c = tt
-
 pub returns-then-own-ne0 : goal.returns-then-own-ne0
 returns-then-own-ne0 c =
     timetable-refused (given c.args.n c.args.triples.now c.args.counts.now) _ c.check-c.ensures.number_value c.if-own-ne0.true _

@@ -1,66 +1,52 @@
 -- `round_of` is a round: after i turns it is the round's first i facts. Assumes nothing.
 use mathlib.Core.Path.{◌≡◌, refl}
+use mathlib.Core.List.{List}
+use Prim.Native.Nat.{ℕ, ◌<◌}
 use native.Mathlib.Omega.{arith}
 use lib.ListN.{length}
-use Rattle.meaning.specs.Limits.{most_events}
-use Rattle.problem.specs.Arcs.{net, Arc}
+use Rattle.problem.specs.Arcs.{Net, at, Arc}
+use Rattle.facts.specs.Tests.{Within}
 use Rattle.facts.specs.Rounds.{upto}
 use Rattle.facts.proofs.Tables.{upto-more}
 use Rattle.facts.proofs.rounds.round_of.Goals as goal
+
+-- the fact of this turn is an arc
+arc : {g : Net} {fs : List ℕ} {n i j : ℕ} → Within g fs n → i < length fs → j ≡ at fs i → Arc g n j
+arc w h e = rw e (w.known.each _ h)
 
 pub loop-i-init : goal.loop-i-init
 unfolding upto
 loop-i-init c = (omega arith, refl)
 
 pub bounds-xs-j : goal.bounds-xs-j
-bounds-xs-j c =
-    let arc : Arc (net c.args.xs.now c.args.ys.now c.args.bs.now) most_events c.wide-j.result = (rw c.wide-j.ensures (c.requires.0.known.each c.loop-i.i (omega arith))) in
-    (arc).in-xs
+bounds-xs-j c = (arc c.requires.0 c.loop-i-test.true c.wide-j.ensures).in-xs
 
 pub bounds-ys-j : goal.bounds-ys-j
-bounds-ys-j c =
-    let arc : Arc (net c.args.xs.now c.args.ys.now c.args.bs.now) most_events c.wide-j.result = (rw c.wide-j.ensures (c.requires.0.known.each c.loop-i.i (omega arith))) in
-    (arc).in_ys
+bounds-ys-j c = (arc c.requires.0 c.loop-i-test.true c.wide-j.ensures).in_ys
 
 pub offset_bounds-nxt-x : goal.offset_bounds-nxt-x
-offset_bounds-nxt-x c =
-    let arc : Arc (net c.args.xs.now c.args.ys.now c.args.bs.now) most_events c.wide-j.result = (rw c.wide-j.ensures (c.requires.0.known.each c.loop-i.i (omega arith))) in
-    omega (arith, (arc).in_head)
+offset_bounds-nxt-x c = omega (arith, (arc c.requires.0 c.loop-i-test.true c.wide-j.ensures).in_head)
 
 pub bounds-nxt-x : goal.bounds-nxt-x
-bounds-nxt-x c =
-    let arc : Arc (net c.args.xs.now c.args.ys.now c.args.bs.now) most_events c.wide-j.result = (rw c.wide-j.ensures (c.requires.0.known.each c.loop-i.i (omega arith))) in
-    omega (arith, (arc).in_head)
+bounds-nxt-x c = omega (arith, (arc c.requires.0 c.loop-i-test.true c.wide-j.ensures).in_head)
 
 pub offset_bounds-cur-y : goal.offset_bounds-cur-y
-offset_bounds-cur-y c =
-    let arc : Arc (net c.args.xs.now c.args.ys.now c.args.bs.now) most_events c.wide-j.result = (rw c.wide-j.ensures (c.requires.0.known.each c.loop-i.i (omega arith))) in
-    omega (arith, (arc).in_tail)
+offset_bounds-cur-y c = omega (arith, (arc c.requires.0 c.loop-i-test.true c.wide-j.ensures).in_tail)
 
 pub bounds-cur-y : goal.bounds-cur-y
-bounds-cur-y c =
-    let arc : Arc (net c.args.xs.now c.args.ys.now c.args.bs.now) most_events c.wide-j.result = (rw c.wide-j.ensures (c.requires.0.known.each c.loop-i.i (omega arith))) in
-    omega (arith, (arc).in_tail)
+bounds-cur-y c = omega (arith, (arc c.requires.0 c.loop-i-test.true c.wide-j.ensures).in_tail)
 
 pub offset_bounds-bs-j : goal.offset_bounds-bs-j
-offset_bounds-bs-j c =
-    let arc : Arc (net c.args.xs.now c.args.ys.now c.args.bs.now) most_events c.wide-j.result = (rw c.wide-j.ensures (c.requires.0.known.each c.loop-i.i (omega arith))) in
-    omega (arith, (arc).in-bs)
+offset_bounds-bs-j c = omega (arith, (arc c.requires.0 c.loop-i-test.true c.wide-j.ensures).in-bs)
 
 pub bounds-bs-j : goal.bounds-bs-j
-bounds-bs-j c =
-    let arc : Arc (net c.args.xs.now c.args.ys.now c.args.bs.now) most_events c.wide-j.result = (rw c.wide-j.ensures (c.requires.0.known.each c.loop-i.i (omega arith))) in
-    (arc).in-bs
+bounds-bs-j c = (arc c.requires.0 c.loop-i-test.true c.wide-j.ensures).in-bs
 
 pub offset_bounds-nxt-x-in-loop-i : goal.offset_bounds-nxt-x-in-loop-i
-offset_bounds-nxt-x-in-loop-i c =
-    let arc : Arc (net c.args.xs.now c.args.ys.now c.args.bs.now) most_events c.wide-j.result = (rw c.wide-j.ensures (c.requires.0.known.each c.loop-i.i (omega arith))) in
-    omega (arith, (arc).in_head)
+offset_bounds-nxt-x-in-loop-i c = omega (arith, (arc c.requires.0 c.loop-i-test.true c.wide-j.ensures).in_head)
 
 pub bounds-nxt-x-in-loop-i : goal.bounds-nxt-x-in-loop-i
-bounds-nxt-x-in-loop-i c =
-    let arc : Arc (net c.args.xs.now c.args.ys.now c.args.bs.now) most_events c.wide-j.result = (rw c.wide-j.ensures (c.requires.0.known.each c.loop-i.i (omega arith))) in
-    omega (arith, (arc).in_head)
+bounds-nxt-x-in-loop-i c = omega (arith, (arc c.requires.0 c.loop-i-test.true c.wide-j.ensures).in_head)
 
 pub loop-i-preserved : goal.loop-i-preserved
 loop-i-preserved c =

@@ -9,7 +9,7 @@ pub returns-then-triples-at : goal.returns-then-triples-at
 returns-then-triples-at c = grind (arith, element, same-not-apart, events-step)
 
 pub loop-at-preserved : goal.loop-at-preserved
-loop-at-preserved c = grind (arith, element, other-apart, events-step)
+loop-at-preserved c = (omega arith, (omega arith, grind (arith, element, other-apart, events-step)))
 
 pub returns : goal.returns
 returns c = grind (arith, events-end)

@@ -1,5 +1,5 @@
 -- `problem::refusal` meets its contract. Assumes nothing.
-use mathlib.Core.Path.{◌≡◌, refl, ◌∙◌}
+use mathlib.Core.Path.{◌≡◌, refl, sym, ◌∙◌}
 use mathlib.Core.Bool.{Bool, true, false}
 use mathlib.Core.List.{List, [], ◌∷◌}
 use Prim.Native.Nat.{ℕ, ◌≤◌, ◌*◌, ◌/◌, ◌%◌}
@@ -80,16 +80,22 @@ returns-then-triples c =
     rw (le-leb 1 _ c.if-n-lt1.false, le-leb c.args.n most_events (omega arith), le-leb _ most_clauses c.if-counts-gt-CLAUSES.false, eq-eqb _ 0 c.if-triples-ne0.false, lt-leb _ (3 * most_alternatives) c.if-triples.true) refl
 
 pub returns-then-not-steps : goal.returns-then-not-steps
-returns-then-not-steps c = grind (arith, sized, failed)
+returns-then-not-steps c =
+    let s = sized c.args.n c.args.triples.now c.args.counts.now (omega arith) (omega arith) (omega arith) (omega arith) (omega arith) in
+    sym (s ∙ failed 4 _ (sym c.steps.ensures ∙ c.if-not-steps.true))
 
 pub returns-then-not-all_events : goal.returns-then-not-all_events
-returns-then-not-all_events c = grind (arith, sized, counted, failed)
+returns-then-not-all_events c =
+    sym (counted _ _ _ (grind (arith, sized)) (sym c.steps.ensures ∙ c.if-not-steps.false) ∙ failed 5 _ (sym c.all_events.ensures ∙ c.if-not-all_events.true))
 
 pub returns-then-not-all_apart : goal.returns-then-not-all_apart
-returns-then-not-all_apart c = grind (arith, sized, counted, named, failed)
+returns-then-not-all_apart c =
+    sym (named _ _ _ (grind (arith, sized, counted)) (sym c.all_events.ensures ∙ c.if-not-all_events.false) ∙ failed 12 _ (sym c.all_apart.ensures ∙ c.if-not-all_apart.true))
 
 pub returns-then-not-all_bounds : goal.returns-then-not-all_bounds
-returns-then-not-all_bounds c = grind (arith, sized, counted, named, paired, failed)
+returns-then-not-all_bounds c =
+    sym (paired _ _ _ (grind (arith, sized, counted, named)) (sym c.all_apart.ensures ∙ c.if-not-all_apart.false) ∙ failed 6 _ (sym c.all_bounds.ensures ∙ c.if-not-all_bounds.true))
 
 pub returns : goal.returns
-returns c = grind (arith, sized, counted, named, paired, bounded)
+returns c =
+    sym (bounded _ _ _ (grind (arith, sized, counted, named, paired)) (sym c.all_bounds.ensures ∙ c.if-not-all_bounds.false))

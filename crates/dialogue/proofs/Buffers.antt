@@ -72,6 +72,10 @@ to-within (x ∷ s) (suc at) t h = suc-le-suc (to-within s at t (le_of_suc-le-su
 to-within (x ∷ s) zero [] h = h
 to-within (x ∷ s) zero (b ∷ t) h = suc-le-suc (to-within s zero t zero-le)
 
+-- so where a call ended is within what it left
+pub put-within : (s : List ℕ) (at : ℕ) (t held : List ℕ) {to : ℕ} → at ≤ length s → length held ≡ length s → to ≡ written_to s at t → to ≤ length held
+put-within s at t held h l e = rw (l, e) (to-within s at t h)
+
 -- one text after another is both as one
 pub written_then : (s : List ℕ) (at : ℕ) (t u : List ℕ) → written (written s at t) (written_to s at t) u ≡ written s at (t ++ u)
 unfolding written written_to

@@ -105,6 +105,10 @@ module _ (s : List ℕ) (at : ℕ) (triples : List ℤ) (counts : List ℕ) wher
         subst (λ (n : ℕ). n ≤ length counts) (let z : m' ≡ m = cc in z) (list_count number s p counts m' p' q'),
       )
 
+-- so are they where that was told
+pub lists-told : (s : List ℕ) (at : ℕ) (triples : List ℤ) (counts : List ℕ) {r : Lists} {k m end : ℕ} → r ≡ lists_at s at triples counts → r ≡ Lists.Of k m end → (k ≤ length triples) × (m ≤ length counts)
+lists-told s at triples counts e q = lists-in s at triples counts _ _ _ (sym e ∙ q)
+
 -- ---- the head of a plan's request: what is lent is within what there is to lend
 pub head_in : (s : List ℕ) (at times picks reasons n v t p r end : ℕ) → head_at s at times picks reasons ≡ Head.Of n v t p r end → (t ≤ times) × (p ≤ picks) × (r ≤ reasons)
 head_in s at times picks reasons n v t p r end e =

@@ -22,7 +22,7 @@ use Rattle.distances.specs.Numbers.{middle, no_way, distance, table_at}
 use Rattle.distances.proofs.Numbers.{distance-far, distance_none}
 use Rattle.standing.specs.declared.Day.{Day}
 use Rattle.standing.specs.Entries.{no_entry, said, table_of}
-use Rattle.standing.specs.Standing.{in_range, is_table, table_tests, new_tests}
+use Rattle.standing.specs.Standing.{in_range, is_table, table_tests, day_tests, new_tests}
 use Rattle.standing.specs.Numbers.{number_of, Numbered, Capped}
 use Rattle.standing.proofs.Every.{every-same}
 use Rattle.standing.proofs.Passing.{Passes, passes, passed, same-passes}
@@ -111,3 +111,7 @@ module _ (d : Day) (s : List ℕ) (num : Numbered d.entries s) where
       go : (b : Bool) → is_size d.n ≡ b → first_failed (table_tests d.n (table_at s 0 most_events)) ≡ first_failed (table_tests d.n (table_of d))
       go true e = rw (table_same d.n (few-of e)) refl
       go false e = rw e refl
+
+  -- a day passes where the refusal that its numbers give is 0
+  pub day-passed : {k : ℕ} → k ≡ first_failed (table_tests d.n (table_at s 0 most_events)) → k ≡ 0 → first_failed (day_tests d) ≡ 0
+  day-passed e z = sym day-same ∙ sym e ∙ z

@@ -17,18 +17,20 @@ use Rattle.slider.proofs.limited.Goals.{then-more, else-more}
 abbrev size_of : Bool → ℕ → ℕ
 size_of more whole = pick more (whole + 1) whole
 
+-- the size that is tested, by either way
+size-is : {more : Bool} {n : ℕ} (whole : ℕ) (b : Bool) → n ≡ size_of b whole → more ≡ b → n ≡ size_of more whole
+size-is whole b e h = e ∙ ap (λ (t : Bool). size_of t whole) (sym h)
+
 pub returns-then-n-gt-BOUND_LIMIT : goal.returns-then-n-gt-BOUND_LIMIT
 returns-then-n-gt-BOUND_LIMIT c =
-    let by : (more : Bool) → c.args.more ≡ more → size_of more c.args.whole ≡ size_of c.args.more c.args.whole = λ more e. ap (λ (t : Bool). size_of t c.args.whole) (sym e) in
-    let size_is : c.if-more.n ≡ size_of c.args.more c.args.whole = elim c.if-more.branch [ then-more w ↦ w.n-is ∙ by true w.if-more.true | else-more w ↦ w.n-is ∙ by false w.if-more.false ] in
+    let size_is : c.if-more.n ≡ size_of c.args.more c.args.whole = elim c.if-more.branch [ then-more w ↦ size-is _ true w.n-is w.if-more.true | else-more w ↦ size-is _ false w.n-is w.if-more.false ] in
     let a = c.args in
     let far = subst (λ (n : ℕ). bound_limit < n) size_is c.if-n-gt-BOUND_LIMIT.true in
     ap told (sym (far-refused a.neg (size_of a.more a.whole) far))
 
 pub returns : goal.returns
 returns c =
-    let by : (more : Bool) → c.args.more ≡ more → size_of more c.args.whole ≡ size_of c.args.more c.args.whole = λ more e. ap (λ (t : Bool). size_of t c.args.whole) (sym e) in
-    let size_is : c.if-more.n ≡ size_of c.args.more c.args.whole = elim c.if-more.branch [ then-more w ↦ w.n-is ∙ by true w.if-more.true | else-more w ↦ w.n-is ∙ by false w.if-more.false ] in
+    let size_is : c.if-more.n ≡ size_of c.args.more c.args.whole = elim c.if-more.branch [ then-more w ↦ size-is _ true w.n-is w.if-more.true | else-more w ↦ size-is _ false w.n-is w.if-more.false ] in
     let a = c.args in
     let n = size_of a.more a.whole in
     let small : c.if-more.n ≤ bound_limit = omega arith in

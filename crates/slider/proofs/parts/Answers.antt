@@ -1,6 +1,6 @@
 -- `slider::parts` meets its contract: each way out is one range of the bits (`Bits`). Assumes nothing.
 use mathlib.Core.Path.{◌≡◌, sym, ap, ◌∙◌, subst}
-use mathlib.Core.Bool.{false, not}
+use mathlib.Core.Bool.{true, false, not}
 use Prim.Native.Nat.{ℕ, ◌+◌, ◌-◌, ◌*◌, ◌/◌, ◌%◌, ◌^◌, ◌≤◌, ◌<◌}
 use native.Mathlib.Omega.{arith}
 use lib.Dec.{T, eqb}
@@ -35,6 +35,10 @@ no_nan x h = go x h
     go (inf s) h = tt
     go (fin s m e) h = tt
 
+-- an argument is a number of its type
+held : (x : Float) → fits binary32 x ≡ true → T (fits binary32 x)
+held x e = subst T (sym e) tt
+
 pub returns-then-x : goal.returns-then-x
 returns-then-x c =
     c.no_split.ensures ∙ sym (ap (split_of c.args.j) (differs_from_itself c.args.x (subst T (sym c.if-x.true) tt)) ∙ split-nan c.args.j)
@@ -44,18 +48,15 @@ float_to_bits-b c = no_nan c.args.x c.if-x.false
 
 pub returns-then-g-ge-NOT_FINITE : goal.returns-then-g-ge-NOT_FINITE
 returns-then-g-ge-NOT_FINITE c =
-    let held : T (fits binary32 c.args.x) = (subst T (sym c.well_formed.0.1) tt) in
-    c.no_split-then-g-ge-NOT_FINITE.ensures ∙ sym (not_finite c.args.x c.args.j (held) c.if-g-ge-NOT_FINITE.true)
+    c.no_split-then-g-ge-NOT_FINITE.ensures ∙ sym (not_finite c.args.x c.args.j (held _ c.well_formed.0.1) c.if-g-ge-NOT_FINITE.true)
 
 pub returns-then-e-lt127 : goal.returns-then-e-lt127
 returns-then-e-lt127 c =
-    let held : T (fits binary32 c.args.x) = (subst T (sym c.well_formed.0.1) tt) in
-    c.finite_split.ensures ∙ sym (low-range c.args.x c.args.j (held) c.if-g-ge-NOT_FINITE.false c.if-e-lt127.true)
+    c.finite_split.ensures ∙ sym (low-range c.args.x c.args.j (held _ c.well_formed.0.1) c.if-g-ge-NOT_FINITE.false c.if-e-lt127.true)
 
 pub returns-then-e-ge150 : goal.returns-then-e-ge150
 returns-then-e-ge150 c =
-    let held : T (fits binary32 c.args.x) = (subst T (sym c.well_formed.0.1) tt) in
-    c.finite_split-then-e-ge150.ensures ∙ sym (high-range c.args.x c.args.j (held) c.if-g-ge-NOT_FINITE.false c.requires c.if-e-ge150.true)
+    c.finite_split-then-e-ge150.ensures ∙ sym (high-range c.args.x c.args.j (held _ c.well_formed.0.1) c.if-g-ge-NOT_FINITE.false c.requires c.if-e-ge150.true)
 
 pub nonzero_div-m : goal.nonzero_div-m
 nonzero_div-m c = unit-pos _ c.if-e-lt127.false
@@ -65,11 +66,10 @@ nonzero_rem-m-2 c = unit-pos _ c.if-e-lt127.false
 
 pub returns : goal.returns
 returns c =
-    let held : T (fits binary32 c.args.x) = (subst T (sym c.well_formed.0.1) tt) in
     let b = to_bits binary32 c.args.x in
     let e = field b + c.args.j in
     let made : ℕ → ℕ → Split = λ d u. finite_split (negative b) ((lead + d) / u) (not (eqb ((lead + d) % u) 0)) in
     c.finite_split-2.ensures
-    ∙ sym (mid-range c.args.x c.args.j (held) c.if-g-ge-NOT_FINITE.false c.requires c.if-e-lt127.false c.if-e-ge150.false
+    ∙ sym (mid-range c.args.x c.args.j (held _ c.well_formed.0.1) c.if-g-ge-NOT_FINITE.false c.requires c.if-e-lt127.false c.if-e-ge150.false
     ∙ ap (λ (d : ℕ). made d (2 ^ (150 - e))) (same_digits b)
     ∙ ap (made (b % 2147483648 % 8388608)) (sym (unit-is e c.if-e-lt127.false)))

@@ -1,5 +1,5 @@
 -- `list_signed` meets its contract: reading what remains into what is left gives the same memory and place. Assumes nothing.
-use mathlib.Core.Path.{refl, sym, ap, ◌∙◌}
+use mathlib.Core.Path.{sym, ap, ◌∙◌}
 use native.Mathlib.Omega.{arith}
 use borrow.Author.Rules.{rules}
 use lib.ListN.{length-set}
@@ -7,20 +7,17 @@ use lib.IntN.{pos}
 use mir.Syntax.{w32}
 use mir.Val.{SFits}
 use mir.Facts.{to_z-of_z}
-use Rattle.dialogue.specs.Words.{signed_of, word_at, after_word}
+use Rattle.dialogue.specs.Words.{signed_of}
 use Rattle.dialogue.specs.Told.{as_listed}
 use Rattle.dialogue.proofs.Listing.{after-end, list-end, after_none, list-none, after_more, list-more}
 use Rattle.dialogue.proofs.Telling.{next-signed-some, next-signed-none}
 use Rattle.dialogue.proofs.reading.list_signed.Goals as goal
 
-pub loop-i-init : goal.loop-i-init
-loop-i-init c = (omega arith, (refl, (refl, refl)))
-
 pub returns-in-Malformed : goal.returns-in-Malformed
 returns-in-Malformed c =
     let l = c.loop-i in
     let a = c.args.line.now in
-    let e = next-signed-none (after_word a l.to) (signed_of (word_at a l.to)) c.signed_at.result c.in-Malformed.is c.signed_at.ensures in
+    let e = next-signed-none _ _ _ c.in-Malformed.is c.signed_at.ensures in
     record {
       value = sym (ap as_listed (l.invariant.1.1.0 ∙ after_none signed_of a l.to l.out l.i (pos 0) (omega arith) e));
       after = sym (l.invariant.1.1.1 ∙ list-none signed_of a l.to l.out l.i (pos 0) (omega arith) e);
@@ -30,7 +27,7 @@ pub loop-i-preserved : goal.loop-i-preserved
 loop-i-preserved c =
     let l = c.loop-i in
     let a = c.args.line.now in
-    let e = next-signed-some (after_word a l.to) (signed_of (word_at a l.to)) c.signed_at.result c.in-Of.value c.in-Of.place c.in-Of.is c.signed_at.ensures in
+    let e = next-signed-some _ _ _ _ _ c.in-Of.is c.signed_at.ensures in
     let f : SFits w32 c.in-Of.value = search rules in
     rw (to_z-of_z f) (
       omega arith,

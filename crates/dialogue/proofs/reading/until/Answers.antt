@@ -1,12 +1,9 @@
 -- `until` meets its contract: the place looked for stays the same while no `stop` has come. Assumes nothing.
-use mathlib.Core.Path.{refl, sym, ◌∙◌}
+use mathlib.Core.Path.{sym, ◌∙◌}
 use native.Mathlib.Omega.{arith}
 use borrow.Author.Rules.{rules}
 use Rattle.dialogue.proofs.Spelling.{place_here, place-on, place_end}
 use Rattle.dialogue.proofs.reading.until.Goals as goal
-
-pub loop-i-init : goal.loop-i-init
-loop-i-init c = (omega arith, (omega arith, refl))
 
 pub returns-then-text-i : goal.returns-then-text-i
 returns-then-text-i c =

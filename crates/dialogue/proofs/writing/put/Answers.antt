@@ -1,12 +1,9 @@
 -- `put` meets its contract: writing what remains of the text gives the same buffer. Assumes nothing.
-use mathlib.Core.Path.{refl, sym, ◌∙◌}
+use mathlib.Core.Path.{sym, ◌∙◌}
 use native.Mathlib.Omega.{arith}
 use lib.ListN.{drop, length-set}
 use Rattle.dialogue.proofs.Buffers.{written-full, to-full, written_on, to-on, written-off, to-off}
 use Rattle.dialogue.proofs.writing.put.Goals as goal
-
-pub loop-i-init : goal.loop-i-init
-loop-i-init c = (omega arith, (refl, (refl, refl)))
 
 pub returns-then-out-to : goal.returns-then-out-to
 returns-then-out-to c =

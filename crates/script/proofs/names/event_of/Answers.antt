@@ -8,9 +8,6 @@ use Rattle.script.proofs.Wording.{apart_by}
 use Rattle.script.proofs.Declaring.{names-count, event-here, event-later, event-end}
 use Rattle.script.proofs.names.event_of.Goals as goal
 
-pub loop-i-init : goal.loop-i-init
-loop-i-init c = (omega arith, omega arith)
-
 pub slice_bounds-same-count : goal.slice_bounds-same-count
 slice_bounds-same-count c = c.requires.order c.loop-i.i c.loop-i-test.true
 

@@ -11,9 +11,6 @@ loop-i-init c =
     let a = c.args in
     (c.table-table.ensures, begins a.text.now a.at _ starts c.blank-notes.ensures)
 
-pub piece_at-part-requires : goal.piece_at-part-requires
-piece_at-part-requires c = c.loop-i.invariant.0
-
 pub returns-then-i-text : goal.returns-then-i-text
 unfolding script_at
 returns-then-i-text c =
@@ -21,12 +18,6 @@ returns-then-i-text c =
     let l = c.loop-i in
     let p = c.piece_at-part in
     c.refusal.ensures ∙ ap told (sym (stuck a.text.now a.at l.i l.state _ l.invariant.1 _ _ _ p.ensures c.if-part-i.true (omega arith)))
-
-pub may_end-requires : goal.may_end-requires
-may_end-requires c = c.loop-i.invariant.0
-
-pub script_of-requires : goal.script_of-requires
-script_of-requires c = c.loop-i.invariant.1.kept.names-within.few
 
 pub returns-then-may_end : goal.returns-then-may_end
 unfolding script_at

@@ -10,9 +10,6 @@ use Rattle.script.specs.Notes.{names_of}
 use Rattle.script.proofs.Taking.{new-refused, renamed, new-taken, kept_on, took-refused, took-going}
 use Rattle.script.proofs.reading.new_name.Goals as goal
 
-pub is_new-requires : goal.is_new-requires
-is_new-requires c = c.requires.kept.names-within
-
 pub returns-then-is_new : goal.returns-then-is_new
 returns-then-is_new c =
     let a = c.args in

@@ -13,7 +13,7 @@ use Rattle.script.proofs.rules.with_alternative.Goals as goal
 
 -- three numbers more are one alternative more
 counted : (l : List ℤ) (k : ℕ) (x y c : ℤ) → length l ≡ k * 3 → length (l ++ (x ∷ y ∷ c ∷ [])) ≡ (k + 1) * 3
-counted l k x y c e = simp (length-append) (omega arith)
+counted l k x y c e = simp length-append (omega arith)
 
 pub returns-then-many-ge-ALTERNATIVES : goal.returns-then-many-ge-ALTERNATIVES
 returns-then-many-ge-ALTERNATIVES c =

@@ -7,7 +7,7 @@ use native.Mathlib.Omega.{arith}
 use lib.IntN.{pos}
 use Prim.Native.Nat.{◌+◌, ◌*◌, ◌≤◌, ◌<◌}
 use borrow.Author.Rules.{rules}
-use mathlib.Core.Path.{◌≡◌, refl, sym, ◌∙◌}
+use mathlib.Core.Path.{◌≡◌, sym, ◌∙◌}
 use Rattle.dialogue.specs.Written.{written, written_to}
 use Rattle.dialogue.proofs.Buffers.{led-written, led-to, led-end, led-end-to}
 use Rattle.meaning.specs.Plain.{nowhere}
@@ -16,9 +16,6 @@ use Rattle.problem.proofs.Triples.{alternative-at}
 use Rattle.meaning.proofs.Accepted.{alternatives-count}
 use Rattle.script.specs.Text.{atom_text}
 use Rattle.script.proofs.text.put_atoms.Goals as goal
-
-pub loop-j-init : goal.loop-j-init
-loop-j-init c = (search rules, (omega arith, (refl, (refl, refl))))
 
 pub loop-j-preserved : goal.loop-j-preserved
 loop-j-preserved c =

@@ -1,5 +1,5 @@
 -- `put_declarations` meets its contract: writing the declarations that remain gives the same buffer. Assumes nothing.
-use mathlib.Core.Path.{◌≡◌, refl, sym, ◌∙◌}
+use mathlib.Core.Path.{sym, ◌∙◌}
 use Prim.Native.Nat.{◌+◌, ◌-◌}
 use borrow.Author.Rules.{rules}
 use native.Mathlib.Omega.{arith}
@@ -7,12 +7,6 @@ use Rattle.dialogue.proofs.Buffers.{written_none, to_none, first}
 use Rattle.script.specs.Text.{declaration_of, declarations_from}
 use Rattle.script.proofs.Putting.{declarations-on, declarations-off}
 use Rattle.script.proofs.text.put_declarations.Goals as goal
-
-pub loop-e-init : goal.loop-e-init
-loop-e-init c =
-    let a = c.args in
-    let all_left : a.n - 0 ≡ a.n = omega arith in
-    (omega arith, (refl, (rw all_left, rw all_left)))
 
 pub loop-e-preserved : goal.loop-e-preserved
 loop-e-preserved c =

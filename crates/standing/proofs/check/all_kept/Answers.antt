@@ -11,9 +11,6 @@ use Rattle.standing.proofs.check.all_kept.Goals as goal
 pub loop-u-init : goal.loop-u-init
 loop-u-init c = (omega arith, every-none (each c.args.s.now c.args.n))
 
-pub from_kept-requires : goal.from_kept-requires
-from_kept-requires c = (c.requires.0, c.requires.1, omega arith)
-
 pub returns-then-not-from_kept : goal.returns-then-not-from_kept
 returns-then-not-from_kept c =
     sym (every-fails c.args.n (each c.args.s.now c.args.n) c.loop-u.u (omega arith) c.from_kept.ensures c.if-not-from_kept.true)

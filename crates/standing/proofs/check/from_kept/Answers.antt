@@ -11,9 +11,6 @@ use Rattle.standing.proofs.check.from_kept.Goals as goal
 pub loop-w-init : goal.loop-w-init
 loop-w-init c = (omega arith, every-none (each c.args.s.now c.args.n c.args.u))
 
-pub over_kept-requires : goal.over_kept-requires
-over_kept-requires c = (c.requires.0, c.requires.1, c.requires.2, omega arith)
-
 pub returns-then-not-over_kept : goal.returns-then-not-over_kept
 returns-then-not-over_kept c =
     sym (every-fails c.args.n (each c.args.s.now c.args.n c.args.u) c.loop-w.w (omega arith) c.over_kept.ensures c.if-not-over_kept.true)

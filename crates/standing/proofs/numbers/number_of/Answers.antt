@@ -1,9 +1,11 @@
 -- `number_of` meets its contract. Assumes nothing.
-use mathlib.Core.Path.{◌∙◌}
+use mathlib.Core.Path.{◌≡◌, ◌∙◌}
+use mathlib.Core.Bool.{false}
 use Prim.Native.Nat.{◌≤◌}
 use native.Mathlib.Omega.{arith}
 use mir.Facts.{to_z-of_z}
-use lib.IntN.{nat_abs}
+use lib.IntN.{ℤ, pos, nat_abs, neg_ℤ}
+use lib.Signed.{lt_z}
 use Rattle.laws.proofs.Integers.{lifts-by}
 use Rattle.problem.specs.Arcs.{farthest}
 use Rattle.distances.specs.Numbers.{middle}
@@ -21,14 +23,16 @@ pub returns-then-z-gt-FARTHEST : goal.returns-then-z-gt-FARTHEST
 returns-then-z-gt-FARTHEST c =
     number-above c.args.z (simp (to_z-of_z c.ranges.z) at c.if-z-ge-NO_ENTRY.false) (simp (to_z-of_z c.ranges.z) at c.if-z-gt-FARTHEST.true)
 
+-- what the tests leave, of the number as the code reads it
+left : (z : ℤ) {w : ℤ} → w ≡ z → lt_z w (neg_ℤ (pos farthest)) ≡ false → lt_z (pos farthest) w ≡ false → nat_abs z ≤ farthest
+left z e h k = near-zero z (rw e at h) (rw e at k)
+
 pub lifted-requires : goal.lifted-requires
 lifted-requires c =
-    let left : nat_abs c.args.z ≤ farthest = (near-zero c.args.z (simp (to_z-of_z c.ranges.z) at c.if-z.false) (simp (to_z-of_z c.ranges.z) at c.if-z-gt-FARTHEST.false)) in
-    let l = lifts-by middle c.args.z (omega (arith, left)) in
+    let l = lifts-by middle c.args.z (omega (arith, left c.args.z (to_z-of_z c.ranges.z) c.if-z.false c.if-z-gt-FARTHEST.false)) in
     rw (to_z-of_z c.ranges.z) (omega arith, (l.b, (l.is, omega (arith, l.small))))
 
 pub returns : goal.returns
 returns c =
-    let left : nat_abs c.args.z ≤ farthest = (near-zero c.args.z (simp (to_z-of_z c.ranges.z) at c.if-z.false) (simp (to_z-of_z c.ranges.z) at c.if-z-gt-FARTHEST.false)) in
     (rw (to_z-of_z c.ranges.z) at c.lifted.ensures)
-    ∙ number_is c.args.z (simp (to_z-of_z c.ranges.z) at c.if-z-ge-NO_ENTRY.false) (left)
+    ∙ number_is c.args.z (simp (to_z-of_z c.ranges.z) at c.if-z-ge-NO_ENTRY.false) (left c.args.z (to_z-of_z c.ranges.z) c.if-z.false c.if-z-gt-FARTHEST.false)

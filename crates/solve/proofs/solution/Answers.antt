@@ -17,37 +17,27 @@ returns-then-script-ne0 c =
 
 pub overflow_mul-numbers : goal.overflow_mul-numbers
 overflow_mul-numbers c =
-    let r = c.read_script-script in
-    let w = script-within c.args.text.now r.result r.ensures in
-    omega arith
+    omega (arith, script-within _ _ c.read_script-script.ensures)
 
 pub slice_bounds-triples-end : goal.slice_bounds-triples-end
 slice_bounds-triples-end c =
-    let r = c.read_script-script in
-    let w = script-within c.args.text.now r.result r.ensures in
-    let l : length r.result.triples ≡ 192 = search rules in
-    omega arith
+    let l : length c.read_script-script.result.triples ≡ 192 = search rules in
+    omega (arith, script-within _ _ c.read_script-script.ensures)
 
 pub slice_bounds-plan-end : goal.slice_bounds-plan-end
 slice_bounds-plan-end c =
-    let r = c.read_script-script in
-    let w = script-within c.args.text.now r.result r.ensures in
-    let l : length r.result.triples ≡ 192 = search rules in
-    simp length-take (omega arith)
+    let l : length c.read_script-script.result.triples ≡ 192 = search rules in
+    simp length-take (omega (arith, script-within _ _ c.read_script-script.ensures))
 
 pub slice_bounds-counts-end : goal.slice_bounds-counts-end
 slice_bounds-counts-end c =
-    let r = c.read_script-script in
-    let w = script-within c.args.text.now r.result r.ensures in
-    let l : length r.result.counts ≡ 32 = search rules in
-    omega arith
+    let l : length c.read_script-script.result.counts ≡ 32 = search rules in
+    omega (arith, script-within _ _ c.read_script-script.ensures)
 
 pub slice_bounds-plan-end-2 : goal.slice_bounds-plan-end-2
 slice_bounds-plan-end-2 c =
-    let r = c.read_script-script in
-    let w = script-within c.args.text.now r.result r.ensures in
-    let l : length r.result.counts ≡ 32 = search rules in
-    simp length-take (omega arith)
+    let l : length c.read_script-script.result.counts ≡ 32 = search rules in
+    simp length-take (omega (arith, script-within _ _ c.read_script-script.ensures))
 
 pub returns : goal.returns
 returns c =

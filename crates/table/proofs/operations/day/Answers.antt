@@ -7,10 +7,8 @@ use Rattle.table.proofs.operations.day.Goals as goal
 
 pub slice_bounds-day_lent-end : goal.slice_bounds-day_lent-end
 slice_bounds-day_lent-end c =
-    let h = asked_in _ _ _ _ _ _ _ _ _ _ (sym c.asked_at.ensures ∙ c.in-Of.is) in
-    omega arith
+    omega (arith, asked_in _ _ _ _ _ _ _ _ _ _ (sym c.asked_at.ensures ∙ c.in-Of.is))
 
 pub slice_bounds-day_lent-end-2 : goal.slice_bounds-day_lent-end-2
 slice_bounds-day_lent-end-2 c =
-    let h = asked_in _ _ _ _ _ _ _ _ _ _ (sym c.asked_at.ensures ∙ c.in-Of.is) in
-    simp length-take (omega arith)
+    simp length-take (omega (arith, asked_in _ _ _ _ _ _ _ _ _ _ (sym c.asked_at.ensures ∙ c.in-Of.is)))

@@ -7,30 +7,24 @@ use Rattle.table.proofs.operations.plan.Goals as goal
 
 pub slice_bounds-planned-end : goal.slice_bounds-planned-end
 slice_bounds-planned-end c =
-    let h = head_in _ _ _ _ _ _ _ _ _ _ _ (sym c.head_at.ensures ∙ c.in-Of.is) in
-    omega arith
+    omega (arith, head_in _ _ _ _ _ _ _ _ _ _ _ (sym c.head_at.ensures ∙ c.in-Of.is))
 
 pub slice_bounds-planned-end-in-Of : goal.slice_bounds-planned-end-in-Of
 slice_bounds-planned-end-in-Of c =
-    let h = head_in _ _ _ _ _ _ _ _ _ _ _ (sym c.head_at.ensures ∙ c.in-Of.is) in
-    simp length-take (omega arith)
+    simp length-take (omega (arith, head_in _ _ _ _ _ _ _ _ _ _ _ (sym c.head_at.ensures ∙ c.in-Of.is)))
 
 pub slice_bounds-planned-end-in-Of-2 : goal.slice_bounds-planned-end-in-Of-2
 slice_bounds-planned-end-in-Of-2 c =
-    let h = head_in _ _ _ _ _ _ _ _ _ _ _ (sym c.head_at.ensures ∙ c.in-Of.is) in
-    omega arith
+    omega (arith, head_in _ _ _ _ _ _ _ _ _ _ _ (sym c.head_at.ensures ∙ c.in-Of.is))
 
 pub slice_bounds-planned-end-in-Of-3 : goal.slice_bounds-planned-end-in-Of-3
 slice_bounds-planned-end-in-Of-3 c =
-    let h = head_in _ _ _ _ _ _ _ _ _ _ _ (sym c.head_at.ensures ∙ c.in-Of.is) in
-    simp length-take (omega arith)
+    simp length-take (omega (arith, head_in _ _ _ _ _ _ _ _ _ _ _ (sym c.head_at.ensures ∙ c.in-Of.is)))
 
 pub slice_bounds-planned-end-in-Of-4 : goal.slice_bounds-planned-end-in-Of-4
 slice_bounds-planned-end-in-Of-4 c =
-    let h = head_in _ _ _ _ _ _ _ _ _ _ _ (sym c.head_at.ensures ∙ c.in-Of.is) in
-    omega arith
+    omega (arith, head_in _ _ _ _ _ _ _ _ _ _ _ (sym c.head_at.ensures ∙ c.in-Of.is))
 
 pub slice_bounds-planned-end-in-Of-5 : goal.slice_bounds-planned-end-in-Of-5
 slice_bounds-planned-end-in-Of-5 c =
-    let h = head_in _ _ _ _ _ _ _ _ _ _ _ (sym c.head_at.ensures ∙ c.in-Of.is) in
-    simp length-take (omega arith)
+    simp length-take (omega (arith, head_in _ _ _ _ _ _ _ _ _ _ _ (sym c.head_at.ensures ∙ c.in-Of.is)))

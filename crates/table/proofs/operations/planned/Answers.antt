@@ -1,30 +1,21 @@
 -- `planned` is safe and ends. Assumes nothing.
-use mathlib.Core.Path.{sym, ◌∙◌}
 use native.Mathlib.Omega.{arith}
 use lib.ListN.{length-take}
-use Rattle.exchange.proofs.Asking.{lists-in}
+use Rattle.exchange.proofs.Asking.{lists-told}
 use Rattle.table.proofs.operations.planned.Goals as goal
 
 pub slice_bounds-plan_lent-end : goal.slice_bounds-plan_lent-end
 slice_bounds-plan_lent-end c =
-    let a = c.args in
-    let h = lists-in _ _ a.triples.now a.counts.now _ _ _ (sym c.lists_at.ensures.value ∙ c.in-Of.is) in
-    omega arith
+    omega (arith, lists-told _ _ _ _ c.lists_at.ensures.value c.in-Of.is)
 
 pub slice_bounds-plan_lent-end-2 : goal.slice_bounds-plan_lent-end-2
 slice_bounds-plan_lent-end-2 c =
-    let a = c.args in
-    let h = lists-in _ _ a.triples.now a.counts.now _ _ _ (sym c.lists_at.ensures.value ∙ c.in-Of.is) in
-    simp length-take (omega arith)
+    simp length-take (omega (arith, lists-told _ _ _ _ c.lists_at.ensures.value c.in-Of.is))
 
 pub slice_bounds-plan_lent-end-3 : goal.slice_bounds-plan_lent-end-3
 slice_bounds-plan_lent-end-3 c =
-    let a = c.args in
-    let h = lists-in _ _ a.triples.now a.counts.now _ _ _ (sym c.lists_at.ensures.value ∙ c.in-Of.is) in
-    omega arith
+    omega (arith, lists-told _ _ _ _ c.lists_at.ensures.value c.in-Of.is)
 
 pub slice_bounds-plan_lent-end-4 : goal.slice_bounds-plan_lent-end-4
 slice_bounds-plan_lent-end-4 c =
-    let a = c.args in
-    let h = lists-in _ _ a.triples.now a.counts.now _ _ _ (sym c.lists_at.ensures.value ∙ c.in-Of.is) in
-    simp length-take (omega arith)
+    simp length-take (omega (arith, lists-told _ _ _ _ c.lists_at.ensures.value c.in-Of.is))

@@ -8,15 +8,11 @@ use Rattle.table.proofs.operations.script.Goals as goal
 
 pub slice_bounds-read_script-end : goal.slice_bounds-read_script-end
 slice_bounds-read_script-end c =
-    let a = c.args in
-    let h = list_count _ _ _ a.list.now _ _ (sym c.byte_list.ensures.value ∙ c.in-Of.is) in
-    omega arith
+    omega (arith, list_count _ _ _ _ _ _ (sym c.byte_list.ensures.value ∙ c.in-Of.is))
 
 pub slice_bounds-read_script-end-2 : goal.slice_bounds-read_script-end-2
 slice_bounds-read_script-end-2 c =
-    let a = c.args in
-    let h = list_count _ _ _ a.list.now _ _ (sym c.byte_list.ensures.value ∙ c.in-Of.is) in
-    simp length-take (omega arith)
+    simp length-take (omega (arith, list_count _ _ _ _ _ _ (sym c.byte_list.ensures.value ∙ c.in-Of.is)))
 
 pub put_script-requires : goal.put_script-requires
 put_script-requires c = script-within _ c.read_script.result c.read_script.ensures

@@ -2,41 +2,29 @@
 use mathlib.Core.Path.{sym, ◌∙◌}
 use native.Mathlib.Omega.{arith}
 use lib.ListN.{length-take}
-use Rattle.exchange.proofs.Asking.{list_count, lists-in}
+use Rattle.exchange.proofs.Asking.{list_count, lists-told}
 use Rattle.table.proofs.operations.times.Goals as goal
 
 pub slice_bounds-read_timetable-end : goal.slice_bounds-read_timetable-end
 slice_bounds-read_timetable-end c =
-    let a = c.args in
-    let h = lists-in _ _ a.triples.now a.counts.now _ _ _ (sym c.lists_at.ensures.value ∙ c.in-Of-lists_at.is) in
-    omega arith
+    omega (arith, lists-told _ _ _ _ c.lists_at.ensures.value c.in-Of-lists_at.is)
 
 pub slice_bounds-read_timetable-end-2 : goal.slice_bounds-read_timetable-end-2
 slice_bounds-read_timetable-end-2 c =
-    let a = c.args in
-    let h = lists-in _ _ a.triples.now a.counts.now _ _ _ (sym c.lists_at.ensures.value ∙ c.in-Of-lists_at.is) in
-    simp length-take (omega arith)
+    simp length-take (omega (arith, lists-told _ _ _ _ c.lists_at.ensures.value c.in-Of-lists_at.is))
 
 pub slice_bounds-read_timetable-end-3 : goal.slice_bounds-read_timetable-end-3
 slice_bounds-read_timetable-end-3 c =
-    let a = c.args in
-    let h = lists-in _ _ a.triples.now a.counts.now _ _ _ (sym c.lists_at.ensures.value ∙ c.in-Of-lists_at.is) in
-    omega arith
+    omega (arith, lists-told _ _ _ _ c.lists_at.ensures.value c.in-Of-lists_at.is)
 
 pub slice_bounds-read_timetable-end-4 : goal.slice_bounds-read_timetable-end-4
 slice_bounds-read_timetable-end-4 c =
-    let a = c.args in
-    let h = lists-in _ _ a.triples.now a.counts.now _ _ _ (sym c.lists_at.ensures.value ∙ c.in-Of-lists_at.is) in
-    simp length-take (omega arith)
+    simp length-take (omega (arith, lists-told _ _ _ _ c.lists_at.ensures.value c.in-Of-lists_at.is))
 
 pub slice_bounds-read_timetable-end-5 : goal.slice_bounds-read_timetable-end-5
 slice_bounds-read_timetable-end-5 c =
-    let a = c.args in
-    let h = list_count _ _ _ a.timetable.now _ _ (sym c.signed_list.ensures.value ∙ c.in-Of-signed_list.is) in
-    omega arith
+    omega (arith, list_count _ _ _ _ _ _ (sym c.signed_list.ensures.value ∙ c.in-Of-signed_list.is))
 
 pub slice_bounds-read_timetable-end-6 : goal.slice_bounds-read_timetable-end-6
 slice_bounds-read_timetable-end-6 c =
-    let a = c.args in
-    let h = list_count _ _ _ a.timetable.now _ _ (sym c.signed_list.ensures.value ∙ c.in-Of-signed_list.is) in
-    simp length-take (omega arith)
+    simp length-take (omega (arith, list_count _ _ _ _ _ _ (sym c.signed_list.ensures.value ∙ c.in-Of-signed_list.is)))

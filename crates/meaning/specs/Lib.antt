@@ -1,4 +1,5 @@
 pub mod Limits
+pub mod Refusal
 pub mod Problem
 pub mod Plain
 pub mod Decision

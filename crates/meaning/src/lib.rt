@@ -2,6 +2,36 @@
 // The crate is for its definitions (specs) and what is shown of them (proofs); these types are what both speak of.
 #![tactic(auto)]
 
+ghost use Rattle.std.specs.Prelude.{◌≡◌};
+ghost use Rattle.meaning.specs.Refusal.{number_of};
+
+// Why an input is refused, each fault with its number: 01's 1 to 8, and 12, 13, 16, 20 and 21 of 02. A slider's own are `slider`'s.
+#[derive(Clone, Copy, PartialEq, Eq, Debug)]
+pub enum Refusal {
+    Events = 1,
+    Clauses = 2,
+    Triples = 3,
+    Counts = 4,
+    Event = 5,
+    Bound = 6,
+    Allowance = 7,
+    Lent = 8,
+    Itself = 12,
+    NoTimetable = 13,
+    NoDay = 16,
+    Script = 20,
+    Room = 21,
+}
+
+// The number that is told.
+impl From<Refusal> for u8 {
+    ghost from_gives = { λ e r. r ≡ number_of e };
+
+    fn from(e: Refusal) -> u8 {
+        e as u8
+    }
+}
+
 // The five cases of "What the screen may say".
 #[derive(Clone, Copy)]
 pub enum Answer {

@@ -1,33 +1,33 @@
 -- An accepted input, as a problem by value, reads as the clauses that were lent. Assumes nothing.
 use mathlib.Core.Path.{◌≡◌, refl, sym, ap, ◌∙◌}
-use mathlib.Core.List.{List, [], ◌∷◌}
+use mathlib.Core.List.{List, [], ◌∷◌, map}
 use Prim.Native.Nat.{ℕ, zero, suc, ◌+◌, ◌-◌, ◌*◌, ◌/◌, ◌<◌, ◌≤◌}
 use native.Mathlib.Omega.{arith}
 use lib.IntN.{ℤ, pos, nat_abs, sub_ℕ, ◌+ℤ◌}
-use lib.ListN.{length, get_or, take, drop}
+use lib.ListN.{length, get_or, take, drop, get_or-map, length-map}
 use lib.Seq.{drop-cons, ext_get_or}
 use Rattle.meaning.specs.Limits.{most_clauses, most_in_clause, most_alternatives, most_bound, opposite_from}
 use Rattle.meaning.specs.Problem.{Alternative, opposite}
 use Rattle.meaning.specs.Plain.{nowhere}
 use Rattle.meaning.specs.Screen.{Lent, alternatives, clauses_of}
 use Rattle.meaning.proofs.Accepted.{Passes, parted-length, alternatives-count}
-use Rattle.problem.specs.Arcs.{Net, at, bias, head, tail, bound, arc, Arc, arcs_from}
-use Rattle.problem.specs.Laid.{arcs, clauses_in, Laid}
+use Rattle.problem.specs.Arcs.{Net, net, no_edge, at, bias, head, tail, bound, arc, Arc, arcs_from}
+use Rattle.problem.specs.declared.Edge.{Edge}
+use Rattle.problem.specs.declared.Problem.{Problem}
+use Rattle.problem.specs.Layout.{Layout}
+use Rattle.problem.specs.Laid.{clause_of, clauses_in}
 use Rattle.problem.specs.Reads.{Reads}
+use Rattle.problem.specs.Loaded.{placed, biased, edge_of, turned, edges_of, Loadable, IsLoaded}
 use Rattle.problem.proofs.Laying.{clauses-length, clause-of}
-use Rattle.problem.specs.Loaded.{table, biased, placed, problem_of, no_problem, loaded, Loadable, Holds}
 use Rattle.problem.proofs.Triples.{alternative_at, alternative-at, events-at, bounds-at}
 use Rattle.problem.proofs.Counts.{count-rises, count_under, count-ends, parted-at}
 use Rattle.problem.proofs.Lifting.{Lifts, lifts, lifts-opposite, unbiased}
-use Rattle.problem.proofs.Tables.{placed_at, table-at, table-turned, table-length}
+use Rattle.problem.proofs.Tables.{placed_at, edge-at, edge-turned, edges-length}
 
 -- ---- what the code asks of an accepted input
 -- what `load` asks
-pub loadable : (l : Lent) → Passes l → Loadable l.triples (length l.triples / 3)
-loadable l p =
-    let whole = p.whole in
-    let all = p.all in
-    record { whole = omega arith; few = omega arith; n = l.n; most = p.most; events = p.events; bounds = p.bounds }
+pub loadable : (l : Lent) → Passes l → Loadable l.triples
+loadable l p = record { few = p.all; n = l.n; most = p.most; events = p.events; bounds = p.bounds }
 
 -- what `starts_of` asks
 pub counts-small : (l : Lent) → Passes l → (k : ℕ) → k < length l.counts → at l.counts k ≤ most_alternatives
@@ -85,7 +85,7 @@ module _ (l : Lent) (p : Passes l) where
   alternative j = alternative_at l.triples j
 
   abbrev starts : List ℕ
-  starts = placed (suc most_clauses) (0 ∷ l.counts)
+  starts = placed 0 (suc most_clauses) (0 ∷ l.counts)
 
   all : last ≤ most_alternatives
   all = let h = p.all in omega arith
@@ -111,35 +111,39 @@ module _ (l : Lent) (p : Passes l) where
   alternative-y : (j : ℕ) → j < last → (alternative j).y < l.n
   alternative-y j h = let e = (events-at l.n l.triples p.events j (in_list j h)).1 in rw e.1.0 e.1.1
 
-  stands : (j : ℕ) → j < last → Stands (arcs (problem_of l)) j (alternative j)
-  unfolding problem_of
+  -- what the accepted problem holds
+  abbrev edges : List Edge
+  edges = edges_of made
+
+  -- alternative j and its opposite stand in it
+  stands : (j : ℕ) → j < last → Stands (net edges) j (alternative j)
   stands j h =
       let k : j < length made = omega (arith, many) in
-      let e = made_at j h in
+      let e : get_or edges j no_edge ≡ edge_of (alternative j) = edge-at made few j k ∙ ap edge_of (made_at j h) in
       record {
         no = refl;
-        x = table-at (λ (a : Alternative). a.x) made few j k ∙ ap (λ (a : Alternative). a.x) e;
-        y = table-at (λ (a : Alternative). a.y) made few j k ∙ ap (λ (a : Alternative). a.y) e;
-        b = table-at biased made few j k ∙ ap biased e;
+        x = get_or-map (λ (a : Edge). a.x) edges j no_edge ∙ ap (λ (a : Edge). a.x) e;
+        y = get_or-map (λ (a : Edge). a.y) edges j no_edge ∙ ap (λ (a : Edge). a.y) e;
+        b = get_or-map (λ (a : Edge). a.b) edges j no_edge ∙ ap (λ (a : Edge). a.b) e;
         lifts = lifts (alternative j).c (alternative-bound j h);
       }
 
-  stands-turned : (j : ℕ) → j < last → Stands (arcs (problem_of l)) (opposite_from + j) (opposite (alternative j))
-  unfolding problem_of opposite
+  stands-turned : (j : ℕ) → j < last → Stands (net edges) (opposite_from + j) (opposite (alternative j))
+  unfolding opposite
   stands-turned j h =
       let k : j < length made = omega (arith, many) in
-      let e = ap opposite (made_at j h) in
+      let e : get_or edges (opposite_from + j) no_edge ≡ turned (alternative j) = edge-turned made few j k ∙ ap turned (made_at j h) in
       let c = alternative-bound j h in
       record {
         no = refl;
-        x = table-turned (λ (a : Alternative). a.x) made few j k ∙ ap (λ (a : Alternative). a.x) e;
-        y = table-turned (λ (a : Alternative). a.y) made few j k ∙ ap (λ (a : Alternative). a.y) e;
-        b = table-turned biased made few j k ∙ ap biased e;
+        x = get_or-map (λ (a : Edge). a.x) edges (opposite_from + j) no_edge ∙ ap (λ (a : Edge). a.x) e;
+        y = get_or-map (λ (a : Edge). a.y) edges (opposite_from + j) no_edge ∙ ap (λ (a : Edge). a.y) e;
+        b = get_or-map (λ (a : Edge). a.b) edges (opposite_from + j) no_edge ∙ ap (λ (a : Edge). a.b) e;
         lifts = record { b = 2 * most_bound + 1 - nat_abs ((alternative j).c +ℤ pos bias); is = lifts-opposite (alternative j).c c; small = omega arith };
       }
 
   starts-at : (k : ℕ) → at starts k ≡ at (0 ∷ l.counts) k
-  starts-at k = placed_at (suc most_clauses) (0 ∷ l.counts) k
+  starts-at k = placed_at 0 (suc most_clauses) (0 ∷ l.counts) k
 
   starts-end : at starts (length l.counts) ≡ last
   starts-end = starts-at (length l.counts) ∙ count-ends last 0 l.counts p.steps
@@ -152,10 +156,10 @@ module _ (l : Lent) (p : Passes l) where
   start_under : (k : ℕ) → k ≤ length l.counts → at starts k ≤ last
   start_under k h = rw (starts-at k) (count_under last 0 l.counts p.steps k h)
 
-  clause-is : (k : ℕ) → k < length l.counts → get_or (clauses_of l) k [] ≡ arcs_from (arcs (problem_of l)) (at starts k) (at starts (suc k) - at starts k)
+  clause-is : (k : ℕ) → k < length l.counts → get_or (clauses_of l) k [] ≡ arcs_from (net edges) (at starts k) (at starts (suc k) - at starts k)
   unfolding clauses_of
   clause-is k h =
-      let g : Net = arcs (problem_of l) in
+      let g : Net = net edges in
       let up = (start-rises k h).0 in
       let under = start_under (suc k) h in
       parted-at last 0 l.counts made p.steps k h
@@ -163,17 +167,17 @@ module _ (l : Lent) (p : Passes l) where
       ∙ ap (λ (e : ℕ). take (e - at starts k) (drop (at starts k) made)) (sym (starts-at (suc k)))
       ∙ arcs-from g made (λ j i. made_at j (omega (arith, many)) ∙ stands-is g j (alternative j) (stands j (omega (arith, many)))) (at starts (suc k) - at starts k) (at starts k) (omega (arith, many))
 
-  length-is : (f : Alternative → ℕ) (i : ℕ) → i < 2 * most_alternatives → i < length (table f made)
-  length-is f i h = omega (arith, table-length f made few)
+  within : (f : Edge → ℕ) (i : ℕ) → i < 2 * most_alternatives → i < length (map f edges)
+  within f i h = omega (arith, length-map edges f ∙ edges-length made few)
 
   many-clauses : length (clauses_of l) ≡ length l.counts
   unfolding clauses_of
   many-clauses = parted-length 0 l.counts made
 
-  laid_out : Laid (problem_of l)
-  unfolding problem_of opposite
+  pub laid_out : Layout l.n (length l.counts) starts edges
+  unfolding opposite
   laid_out =
-      let g : Net = arcs (problem_of l) in
+      let g : Net = net edges in
       let inside : (j : ℕ) → j < at starts (length l.counts) → j < last = λ j h. omega (arith, starts-end) in
       record {
         some = p.some;
@@ -183,30 +187,17 @@ module _ (l : Lent) (p : Passes l) where
         rises = start-rises;
         ends = λ k h. omega (arith, start_under k h, starts-end);
         last = omega (arith, starts-end, all);
-        alternative = λ j h. let i = inside j h in stands-within g l.n j (alternative j) (stands j i) (alternative-x j i) (alternative-y j i) (length-is _ j (omega (arith, all))) (length-is _ j (omega (arith, all))) (length-is _ j (omega (arith, all)));
-        turned = λ j h. let i = inside j h in stands-within g l.n (opposite_from + j) (opposite (alternative j)) (stands-turned j i) (alternative-y j i) (alternative-x j i) (length-is _ (opposite_from + j) (omega (arith, all))) (length-is _ (opposite_from + j) (omega (arith, all))) (length-is _ (opposite_from + j) (omega (arith, all)));
+        alternative = λ j h. let i = inside j h in stands-within g l.n j (alternative j) (stands j i) (alternative-x j i) (alternative-y j i) (within _ j (omega (arith, all))) (within _ j (omega (arith, all))) (within _ j (omega (arith, all)));
+        turned = λ j h. let i = inside j h in stands-within g l.n (opposite_from + j) (opposite (alternative j)) (stands-turned j i) (alternative-y j i) (alternative-x j i) (within _ (opposite_from + j) (omega (arith, all))) (within _ (opposite_from + j) (omega (arith, all))) (within _ (opposite_from + j) (omega (arith, all)));
         opposites = λ j h. let i = inside j h in ap opposite (sym (stands-is g j (alternative j) (stands j i))) ∙ stands-is g (opposite_from + j) (opposite (alternative j)) (stands-turned j i);
       }
 
-  pub reads : Reads l (problem_of l)
-  unfolding problem_of
-  reads =
+  -- a problem that is loaded from the input reads as its clauses
+  pub reads : (q : Problem) → IsLoaded l q → Reads l q
+  reads q is =
+      let laid-clause : (k : ℕ) → clause_of q k ≡ arcs_from (net edges) (at starts k) (at starts (suc k) - at starts k) = λ k. rw (is.arcs, is.starts) refl in
+      let length-is : length (clauses_in q) ≡ length l.counts = clauses-length q 0 q.m ∙ is.m in
       record {
-        events = refl;
-        clauses = ext_get_or [] (clauses_of l) (clauses_in (problem_of l)) (many-clauses ∙ sym (clauses-length (problem_of l) 0 (length l.counts))) (λ k h. let i : k < length l.counts = rw many-clauses at h in clause-is k i ∙ sym (clause-of (problem_of l) k i));
-        laid = laid_out;
+        events = is.n;
+        clauses = ext_get_or [] (clauses_of l) (clauses_in q) (many-clauses ∙ sym length-is) (λ k h. let i : k < length l.counts = rw many-clauses at h in clause-is k i ∙ sym (clause-of q k (rw is.m i) ∙ laid-clause k));
       }
-
--- ---- how the problem is put together
-pub assembled : (l : Lent) (starts xs ys bs : List ℕ) → starts ≡ placed (suc most_clauses) (0 ∷ l.counts) → Holds l.triples xs ys bs → record { n = l.n; m = length l.counts; starts = starts; xs = xs; ys = ys; bs = bs } ≡ problem_of l
-unfolding problem_of
-assembled l starts xs ys bs s h = rw (s, h.firsts, h.seconds, h.biases) refl
-
-pub taken : (l : Lent) → loaded l 0 ≡ problem_of l
-unfolding loaded
-taken l = refl
-
-pub refused : (l : Lent) (r : ℕ) → (r ≡ 0 → ⊥) → loaded l r ≡ no_problem
-unfolding loaded
-refused l zero f = absurd (f refl)
-refused l (suc r) f = refl

@@ -9,7 +9,7 @@ use Rattle.meaning.specs.Limits.{most_in_clause}
 use Rattle.meaning.specs.Problem.{Clause}
 use Rattle.problem.specs.declared.Problem.{Problem}
 use Rattle.problem.specs.Arcs.{Net, at, arc, arcs_from}
-use Rattle.problem.specs.Laid.{size_of, clause_of, clauses_from, clauses_in, Laid}
+use Rattle.problem.specs.Laid.{size_of, clause_of, clauses_from, clauses_in}
 
 pub arcs-length : (g : Net) (j k : ℕ) → length (arcs_from g j k) ≡ k
 unfolding arcs_from
@@ -58,16 +58,16 @@ clauses-drop p k (suc c) (suc i) l =
     clauses-drop p (suc k) c i (le_of_suc-le-suc l)
     ∙ rw (let e : suc k + i ≡ k + suc i = omega arith in e) (rw (let e : suc c - suc i ≡ c - i = omega arith in e))
 
-module _ (p : Problem) (laid : Laid p) (k : ℕ) (h : k < p.m) where
+module _ (p : Problem) (k : ℕ) (h : k < p.m) where
   -- the clause's numbers end where the next one's begin, no further than the last
   pub clause-ends : at p.starts k + size_of p k ≤ at p.starts p.m
-  clause-ends = omega (arith, laid.rises k h, laid.ends (suc k) h)
+  clause-ends = omega (arith, p.laid.rises k h, p.laid.ends (suc k) h)
 
   pub clause-last : at p.starts (suc k) ≡ at p.starts k + size_of p k
-  clause-last = omega (arith, laid.rises k h)
+  clause-last = omega (arith, p.laid.rises k h)
 
   pub size-most : size_of p k ≤ most_in_clause
-  size-most = omega (arith, laid.rises k h)
+  size-most = omega (arith, p.laid.rises k h)
 
   -- a position of it is the number of an alternative
   pub position-below : (i : ℕ) → i < size_of p k → at p.starts k + i < at p.starts p.m

@@ -1,8 +1,8 @@
-pub mod Ranges
+pub mod Laying
+pub mod Knowing
+pub mod Lifting
 pub mod Triples
 pub mod Counts
-pub mod Lifting
+pub mod Ranges
 pub mod Tables
-pub mod Laying
 pub mod Acceptance
-pub mod Knowing

@@ -1,14 +1,13 @@
 -- The triples one by one: the alternative that each is, what the tests of events and bounds say of it, and a step of each test. Assumes nothing.
 use mathlib.Core.Path.{◌≡◌, refl, ap, ◌∙◌}
 use mathlib.Core.Bool.{Bool, true, ◌&&◌}
-use mathlib.Core.List.{List, [], ◌∷◌}
+use mathlib.Core.List.{List, [], ◌∷◌, ◌++◌}
 use Prim.Native.Nat.{ℕ, zero, suc, ◌+◌, ◌*◌, ◌<◌, ◌≤◌}
 use native.Mathlib.Nat.{not-suc-le-zero}
 use native.Mathlib.Omega.{arith}
 use lib.Dec.{T}
 use lib.IntN.{ℤ, pos, nat_abs}
-use lib.ListN.{length, get_or, drop, drop_of_length-le}
-use lib.Seq.{drop-cons}
+use lib.ListN.{length, get_or}
 use Rattle.meaning.specs.Limits.{most_bound}
 use Rattle.meaning.specs.Problem.{Alternative}
 use Rattle.meaning.specs.Plain.{nowhere}
@@ -63,28 +62,33 @@ bounds-at (x ∷ (y ∷ (c ∷ more))) t (suc j) h =
     let third : suc j * 3 + 2 ≡ suc (suc (suc (j * 3 + 2))) = omega arith in
     rw third (bounds-at more (first-bound x y c more t).1 j (omega arith))
 
--- ---- a step of a test, and its end
-drop-three : (ts : List ℤ) (i : ℕ) → i + 2 < length ts → drop i ts ≡ get_or ts i (pos 0) ∷ (get_or ts (i + 1) (pos 0) ∷ (get_or ts (i + 2) (pos 0) ∷ drop (i + 3) ts))
-drop-three ts i h =
-    let p : i + 1 ≡ suc i = omega arith in
-    let q : i + 2 ≡ suc (suc i) = omega arith in
-    let r : i + 3 ≡ suc (suc (suc i)) = omega arith in
-    drop-cons ts i (pos 0) (omega arith)
-    ∙ ap (λ (l : List ℤ). get_or ts i (pos 0) ∷ l) (drop-cons ts (suc i) (pos 0) (omega arith) ∙ ap (λ (l : List ℤ). get_or ts (suc i) (pos 0) ∷ l) (drop-cons ts (suc (suc i)) (pos 0) (omega arith)))
-    ∙ rw (p, q, r) refl
-
-pub events-step : (f : ℤ → ℤ → Bool) (i : ℕ) (ts : List ℤ) → i + 2 < length ts → events f (drop i ts) ≡ f (get_or ts i (pos 0)) (get_or ts (i + 1) (pos 0)) && events f (drop (i + 3) ts)
+-- ---- a step of a test over a triple that is cut off the front, and its end
+pub events-step : (f : ℤ → ℤ → Bool) (triple more : List ℤ) → length triple ≡ 3 → events f (triple ++ more) ≡ f (get_or triple 0 (pos 0)) (get_or triple 1 (pos 0)) && events f more
 unfolding events
-events-step f i ts h = rw (drop-three ts i h) refl
+events-step f [] more h = absurd (omega arith)
+events-step f (x ∷ []) more h = absurd (omega arith)
+events-step f (x ∷ (y ∷ [])) more h = absurd (omega arith)
+events-step f (x ∷ (y ∷ (c ∷ []))) more h = refl
+events-step f (x ∷ (y ∷ (c ∷ (z ∷ rest)))) more h = absurd (omega arith)
 
-pub events-end : (f : ℤ → ℤ → Bool) (i : ℕ) (ts : List ℤ) → length ts ≤ i → events f (drop i ts) ≡ true
+pub events-end : (f : ℤ → ℤ → Bool) (ts : List ℤ) → length ts < 3 → events f ts ≡ true
 unfolding events
-events-end f i ts h = rw (drop_of_length-le ts h) refl
+events-end f [] h = refl
+events-end f (x ∷ []) h = refl
+events-end f (x ∷ (y ∷ [])) h = refl
+events-end f (x ∷ (y ∷ (c ∷ rest))) h = absurd (omega arith)
 
-pub bounds-step : (f : ℤ → Bool) (i : ℕ) (ts : List ℤ) → i + 2 < length ts → bounds f (drop i ts) ≡ f (get_or ts (i + 2) (pos 0)) && bounds f (drop (i + 3) ts)
+pub bounds-step : (f : ℤ → Bool) (triple more : List ℤ) → length triple ≡ 3 → bounds f (triple ++ more) ≡ f (get_or triple 2 (pos 0)) && bounds f more
 unfolding bounds
-bounds-step f i ts h = rw (drop-three ts i h) refl
+bounds-step f [] more h = absurd (omega arith)
+bounds-step f (x ∷ []) more h = absurd (omega arith)
+bounds-step f (x ∷ (y ∷ [])) more h = absurd (omega arith)
+bounds-step f (x ∷ (y ∷ (c ∷ []))) more h = refl
+bounds-step f (x ∷ (y ∷ (c ∷ (z ∷ rest)))) more h = absurd (omega arith)
 
-pub bounds-end : (f : ℤ → Bool) (i : ℕ) (ts : List ℤ) → length ts ≤ i → bounds f (drop i ts) ≡ true
+pub bounds-end : (f : ℤ → Bool) (ts : List ℤ) → length ts < 3 → bounds f ts ≡ true
 unfolding bounds
-bounds-end f i ts h = rw (drop_of_length-le ts h) refl
+bounds-end f [] h = refl
+bounds-end f (x ∷ []) h = refl
+bounds-end f (x ∷ (y ∷ [])) h = refl
+bounds-end f (x ∷ (y ∷ (c ∷ rest))) h = absurd (omega arith)

@@ -1,9 +1,10 @@
--- A problem in the numbers that the tests use: arcs in three lists of naturals, by their numbers, j for alternative j and 64 + j for its opposite.
+-- A problem in the numbers that the tests use: arcs by their numbers, j for alternative j and 64 + j for its opposite.
 -- A bound c stands as c + bias; a time t as the minutes −t before closing. Definitions only.
-use Rattle.std.specs.Prelude.{List, [], ◌∷◌, ℕ, zero, suc, ◌+◌, ◌-◌, ◌*◌, ◌<◌, length}
+use Rattle.std.specs.Prelude.{List, [], ◌∷◌, map, ℕ, zero, suc, ◌+◌, ◌-◌, ◌*◌, ◌<◌, length}
 use Rattle.std.proofs.Math.IntN.{sub_ℕ}
 use Rattle.meaning.specs.Limits.{most_events, most_alternatives, most_bound}
 use Rattle.meaning.specs.Problem.{Alternative, Clause}
+use Rattle.problem.specs.declared.Edge.{Edge}
 pub use Rattle.meaning.specs.Decision.{at}
 
 -- what is added to a bound, so that an opposite's is no less than 0
@@ -20,8 +21,13 @@ pub record Net : Type 0 where
   pub ys : List ℕ
   pub bs : List ℕ
 
-abbrev pub net : List ℕ → List ℕ → List ℕ → Net
-net x y b = record { xs = x; ys = y; bs = b }
+-- the net of arcs as they are kept
+abbrev pub net : List Edge → Net
+net l = record { xs = map (λ (e : Edge). e.x) l; ys = map (λ (e : Edge). e.y) l; bs = map (λ (e : Edge). e.b) l }
+
+-- what stands in an unused place
+abbrev pub no_edge : Edge
+no_edge = record { x = 0; y = 0; b = 0 }
 
 abbrev pub head : Net → ℕ → ℕ
 head g j = at g.xs j

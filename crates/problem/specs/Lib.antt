@@ -1,4 +1,5 @@
 pub mod Arcs
+pub mod Layout
 pub mod Laid
 pub mod Reads
 pub mod Loaded

@@ -32,7 +32,7 @@ impl From<Refusal> for u8 {
     }
 }
 
-// The five cases of "What the screen may say".
+// The five cases of "What the screen may say". A refusal is its number there, a byte: a rule of the project, and `Screen.Shows` speaks of it.
 #[derive(Clone, Copy)]
 pub enum Answer {
     Plan { visits: u64, before: u64 },
@@ -42,7 +42,7 @@ pub enum Answer {
     Refused { number: u8 },
 }
 
-// What a reader says.
+// What a reader says: the paper's three cases by name. As a Result of a bool a no would read `Ok(false)`, no plainer.
 #[derive(Clone, Copy)]
 pub enum Verdict {
     Yes,
@@ -51,6 +51,7 @@ pub enum Verdict {
 }
 
 // The lamp panel: the refusal's number or 0, the lit lamps as a set, how many are lit in all and per clause, and the first lit one or 64.
+// Every field is settled where it is refused too (`Lamps.dark`), so it is no Result; and "or 64" is the paper's, so no Option.
 #[derive(Clone, Copy)]
 pub struct Panel {
     pub number: u8,

@@ -8,18 +8,31 @@ ghost use Rattle.meaning.specs.Refusal.{number_of};
 // Why an input is refused, each fault with its number: 01's 1 to 8, and 12, 13, 16, 20 and 21 of 02. A slider's own are `slider`'s.
 #[derive(Clone, Copy, PartialEq, Eq, Debug)]
 pub enum Refusal {
+    // No event, or more than there may be.
     Events = 1,
+    // More clauses than there may be.
     Clauses = 2,
+    // Numbers that are no whole triples, or more than there may be.
     Triples = 3,
+    // Clause counts that fall, rise by more than 4, or do not end at the number of triples.
     Counts = 4,
+    // An event number that is none.
     Event = 5,
+    // A bound that is too large.
     Bound = 6,
+    // An allowance that is too large.
     Allowance = 7,
+    // A timetable or picks that are lent too short.
     Lent = 8,
+    // An event held against itself.
     Itself = 12,
+    // A new fact that has no timetable with the old ones.
     NoTimetable = 13,
+    // A table that is no standing day, or would be none afterwards.
     NoDay = 16,
+    // A script that does not go on, or a name that may not stand there.
     Script = 20,
+    // A text that is longer than the room.
     Room = 21,
 }
 

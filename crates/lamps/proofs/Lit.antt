@@ -13,7 +13,7 @@ use Rattle.meaning.specs.Decision.{sound}
 use Rattle.meaning.specs.Lamps.{forced, lamps_of, joined, bits, ones, lit}
 use Rattle.problem.specs.declared.Problem.{Problem}
 use Rattle.problem.specs.Arcs.{Net, at, arc, arcs_from}
-use Rattle.problem.specs.Laid.{arcs, size_of, clause_of, clauses_from, clauses_in, Laid}
+use Rattle.problem.specs.Laid.{arcs, size_of, clause_of, clauses_from, clauses_in}
 use Rattle.problem.proofs.Laying.{arcs-length, arcs-split, clauses-length, clause-of, clause-last, clause-ends}
 use Rattle.lamps.specs.Masks.{lamps_in, mask}
 use Rattle.lamps.proofs.Sets.{bit_at, count_under, one_more, none_more}
@@ -51,7 +51,7 @@ module _ (fs : List Alternative) (g : Net) where
   dark-more k n e b = e ∙ none_more (lamps_of fs (arcs_from g 0 k)) ∙ ap bits (lamps-more k false b)
 
 -- ---- the lamps of a checked problem
-module _ (p : Problem) (laid : Laid p) where
+module _ (p : Problem) where
   -- the clauses' lamps, joined, are the lamps of the arcs in a row
   joined-from : (fs : List Alternative) (k c : ℕ) → k + c ≡ p.m
       → joined (map (lamps_of fs) (clauses_from p k c)) ≡ lamps_of fs (arcs_from (arcs p) (at p.starts k) (at p.starts p.m - at p.starts k))
@@ -64,20 +64,20 @@ module _ (p : Problem) (laid : Laid p) where
       let g = arcs p in
       let end = at p.starts p.m in
       ap (λ (bs : List Bool). lamps_of fs (clause_of p k) ++ bs) (joined-from fs (suc k) c (omega arith))
-      ∙ ap (λ (j : ℕ). lamps_of fs (clause_of p k) ++ lamps_of fs (arcs_from g j (end - at p.starts (suc k)))) (clause-last p laid k l)
+      ∙ ap (λ (j : ℕ). lamps_of fs (clause_of p k) ++ lamps_of fs (arcs_from g j (end - at p.starts (suc k)))) (clause-last p k l)
       ∙ sym (lamps-split fs g (at p.starts k) (size_of p k) (end - at p.starts (suc k)))
       ∙ ap (λ (n : ℕ). lamps_of fs (arcs_from g (at p.starts k) n))
-      (let z : size_of p k + (end - at p.starts (suc k)) ≡ end - at p.starts k = omega (arith, clause-last p laid k l, laid.ends (suc k) l) in z)
+      (let z : size_of p k + (end - at p.starts (suc k)) ≡ end - at p.starts k = omega (arith, clause-last p k l, p.laid.ends (suc k) l) in z)
 
   pub lamps-are : lamps_in p ≡ lamps_of (forced (clauses_in p)) (arcs_from (arcs p) 0 (at p.starts p.m))
   unfolding lit
   lamps-are =
       joined-from (forced (clauses_in p)) 0 p.m (omega arith)
-      ∙ ap₂ (λ (j n : ℕ). lamps_of (forced (clauses_in p)) (arcs_from (arcs p) j n)) laid.begins
-      (let z : at p.starts p.m - at p.starts 0 ≡ at p.starts p.m = omega (arith, laid.begins) in z)
+      ∙ ap₂ (λ (j n : ℕ). lamps_of (forced (clauses_in p)) (arcs_from (arcs p) j n)) p.laid.begins
+      (let z : at p.starts p.m - at p.starts 0 ≡ at p.starts p.m = omega (arith, p.laid.begins) in z)
 
   pub lamps-few : length (lamps_in p) ≤ most_alternatives
-  lamps-few = omega (arith, ap length lamps-are, lamps-length (forced (clauses_in p)) (arcs p) 0 (at p.starts p.m), laid.last)
+  lamps-few = omega (arith, ap length lamps-are, lamps-length (forced (clauses_in p)) (arcs p) 0 (at p.starts p.m), p.laid.last)
 
   -- the lamps before a, the s lamps from a on, and the rest
   parted : (a s : ℕ) → a + s ≤ at p.starts p.m
@@ -118,8 +118,8 @@ module _ (p : Problem) (laid : Laid p) where
       let a = at p.starts k in
       let xs = lamps_of fs (arcs_from g 0 a) in
       let ys = lamps_of fs (clause_of p k) in
-      let end : at p.starts (suc k) ≡ length ys + length xs = omega (arith, clause-last p laid k l, lamps-length fs g 0 a, lamps-length fs g a (size_of p k)) in
-      ap₂ (λ (n m : ℕ). Count.ones (bit_and n m)) (ap bits (parted a (size_of p k) (clause-ends p laid k l))) (ap₂ mask (sym (lamps-length fs g 0 a)) end)
+      let end : at p.starts (suc k) ≡ length ys + length xs = omega (arith, clause-last p k l, lamps-length fs g 0 a, lamps-length fs g a (size_of p k)) in
+      ap₂ (λ (n m : ℕ). Count.ones (bit_and n m)) (ap bits (parted a (size_of p k) (clause-ends p k l))) (ap₂ mask (sym (lamps-length fs g 0 a)) end)
       ∙ count_under xs ys (lamps_of fs (arcs_from g (a + size_of p k) (at p.starts p.m - (a + size_of p k))))
       ∙ sym (count_at k l)
 

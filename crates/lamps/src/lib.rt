@@ -3,14 +3,15 @@
 
 ghost use Rattle.std.specs.Prelude.{◌≡◌, ◌++◌, map, ◌-◌, ◌≤◌, replicate};
 ghost use Rattle.meaning.specs.Limits.{most_clauses, most_in_clause, most_alternatives};
+ghost use Rattle.meaning.specs.Refusal.{number_of};
 ghost use Rattle.meaning.specs.Lamps.{forced, bits, ones, lit, panel_of, dark, panel};
-ghost use Rattle.problem.specs.Laid.{clauses_in, Laid};
+ghost use Rattle.problem.specs.Laid.{clauses_in};
 ghost use Rattle.problem.specs.Reads.{given};
 ghost use Rattle.held.specs.Held.{facts_in, Ready};
 ghost use Rattle.lamps.specs.Masks.{lamps_in, mask};
 
 use held::Facts;
-use meaning::Panel;
+use meaning::{Panel, Refusal};
 use problem::{CLAUSES, Problem};
 
 // What stands for the first lit lamp where none is lit.
@@ -18,18 +19,13 @@ const NO_LAMP: u32 = 64;
 
 // All alternatives of one-alternative clauses, in order.
 fn forced_facts(p: Problem) -> Facts
-    requires { Laid p }
     ensures { Ready p result × (facts_in p result ≡ forced (clauses_in p)) }
 {
-    let mut f = held::no_facts();
-    let mut k = p.m;
-    while 0 < k {
-        k -= 1;
-        let starts = p.starts;
-        let from = starts[k];
-        if starts[k + 1] - from == 1 {
-            let g = held::put(f, from);
-            f = g;
+    let mut f = Facts::none();
+    for k in (0..p.m).rev() {
+        let from = p.starts[k];
+        if p.starts[k + 1] - from == 1 {
+            f = f.put(from);
         }
     }
     f
@@ -37,20 +33,14 @@ fn forced_facts(p: Problem) -> Facts
 
 // The lit lamps as a set: lamp j by bit j.
 fn lit_set(p: Problem, f: Facts) -> u64
-    requires { Laid p × Ready p f × (facts_in p f ≡ forced (clauses_in p)) }
+    requires { Ready p f × (facts_in p f ≡ forced (clauses_in p)) }
     ensures { result ≡ bits (lamps_in p) }
 {
-    let starts = p.starts;
-    let m = p.m;
-    let end = starts[m];
     let mut set = 0u64;
-    let mut j = 0u8;
-    while j < end {
-        let t = held::tested_with(p, f, j);
-        if t.ok {
-            set = set | 1u64 << j;
+    for j in 0..p.starts[p.m] {
+        if f.tested_with(p, j).is_some() {
+            set |= 1 << j;
         }
-        j += 1;
     }
     set
 }
@@ -68,43 +58,37 @@ fn mask_of(from: u8, end: u8) -> u64
 
 // How many lamps of each clause are lit, 0 past the last clause.
 fn counts_of(p: Problem, set: u64) -> [u32; CLAUSES]
-    requires { Laid p × (set ≡ bits (lamps_in p)) }
+    requires { set ≡ bits (lamps_in p) }
     ensures { result ≡ map ones (lit (clauses_in p)) ++ replicate (most_clauses - p.m) 0 }
 {
-    let starts = p.starts;
-    let mut each = [0u32; CLAUSES];
-    let mut k = 0;
-    while k < p.m {
-        let mask = mask_of(starts[k], starts[k + 1]);
-        each[k] = u64::count_ones(set & mask);
-        k += 1;
+    let mut each = [0; CLAUSES];
+    for k in 0..p.m {
+        let mask = mask_of(p.starts[k], p.starts[k + 1]);
+        each[k] = (set & mask).count_ones();
     }
     each
 }
 
 // The panel of a checked problem.
 fn panel_of(p: Problem) -> Panel
-    requires { Laid p }
     ensures { result ≡ panel_of (lit (clauses_in p)) }
 {
-    let f = forced_facts(p);
-    let set = lit_set(p, f);
-    let each = counts_of(p, set);
+    let lit = lit_set(p, forced_facts(p));
     Panel {
         number: 0,
-        lit: set,
-        total: u64::count_ones(set),
-        each,
-        first: u64::trailing_zeros(set),
+        lit,
+        total: lit.count_ones(),
+        each: counts_of(p, lit),
+        first: lit.trailing_zeros(),
     }
 }
 
-// A panel with no lamp lit.
-fn dark_panel(number: u8) -> Panel
-    ensures { result ≡ dark number }
+// The panel of a refused problem: no lamp lit.
+fn dark_panel(refusal: Refusal) -> Panel
+    ensures { result ≡ dark (number_of refusal) }
 {
     Panel {
-        number,
+        number: u8::from(refusal),
         lit: 0,
         total: 0,
         each: [0; CLAUSES],
@@ -116,11 +100,8 @@ fn dark_panel(number: u8) -> Panel
 pub fn lamps(n: u32, triples: &[i32], counts: &[u32]) -> Panel
     ensures { result ≡ panel (given n triples.now counts.now) }
 {
-    let checked = problem::check(n, triples, counts);
-    let number = checked.number;
-    if number != 0 {
-        return dark_panel(number);
+    match problem::check(n, triples, counts) {
+        Ok(p) => panel_of(p),
+        Err(refusal) => dark_panel(refusal),
     }
-    let p = checked.problem;
-    panel_of(p)
 }

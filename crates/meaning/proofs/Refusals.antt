@@ -8,6 +8,8 @@ use native.Mathlib.Omega.{arith}
 use lib.Dec.{T, ltb, ltb→lt}
 use mir.Facts.{and_yes}
 use Rattle.laws.proofs.Tests.{Passed, is_true}
+use Rattle.meaning.specs.declared.Refusal.{Refusal}
+use Rattle.meaning.specs.Refusal.{number_of}
 use Rattle.meaning.specs.Screen.{Lent, Input, Test, problem_tests, plan_tests, first_failed, problem_refusal, refusal}
 
 -- A6's order, "after 5 and before 6"
@@ -74,3 +76,7 @@ plan-problem i e = go (problem_refusal i.lent) (λ h. sym (problem-first i.lent 
     go : (r : ℕ) → (0 < r → r ≡ 0) → r ≡ 0
     go zero f = refl
     go (suc r) f = f (omega arith)
+
+-- no refusal has the number 0, which says that nothing is refused
+pub refused-some : (e : Refusal) → number_of e ≡ 0 → ⊥
+refused-some e z = grind arith

@@ -21,7 +21,7 @@ use Rattle.meaning.specs.Screen.{Input, refusal, Screen, cleared, listed, shown,
 use Rattle.meaning.proofs.Deciding.{sound-decides}
 use Rattle.meaning.proofs.First.{plan-first, none-holds, stop-place}
 use Rattle.problem.specs.declared.Problem.{Problem}
-use Rattle.problem.specs.Laid.{clauses_in, Laid}
+use Rattle.problem.specs.Laid.{clauses_in}
 use Rattle.search.specs.declared.Place.{Place}
 use Rattle.search.specs.Steps.{positions, Found, Ended, Stopped as Halted}
 use Rattle.search.proofs.Steps.{deep}
@@ -43,7 +43,7 @@ unfolding screen decided cleared
 shows-refused i zero e n = absurd (n refl)
 shows-refused i (suc k) e n = shows-as i (Refused (suc k)) _ _ _ (cleared i (Refused (suc k))) (ap (decided i) (sym e)) refl refl refl refl
 
-module _ (p : Problem) (laid : Laid p) (a : ℕ) (i : Input) (times picks room : ℕ) (accepts : Accepts i p a times picks room) where
+module _ (p : Problem) (a : ℕ) (i : Input) (times picks room : ℕ) (accepts : Accepts i p a times picks room) where
   -- the screen is what the search of the problem by value shows
   shown-is : (o : Outcome) → search sound (clauses_in p) 0 [] a ≡ o → screen i ≡ shown i o
   unfolding screen decided
@@ -60,13 +60,13 @@ module _ (p : Problem) (laid : Laid p) (a : ℕ) (i : Input) (times picks room :
       (ap (λ (m : ℕ). replicate m blank_byte) (sym accepts.has-picks))
       (ap (λ (m : ℕ). replicate m blank_byte) (sym accepts.has_room))
 
-  pub shows-plan : (s : Place) (answer : Answer) (day : List ℤ) (choice : List ℕ) → length s.picks ≡ 32 → Found p a (search sound (clauses_in p) 0 [] a) s → Plans p s answer (replicate times no_time) day (replicate picks blank_byte) choice → Shows i answer day choice (replicate room blank_byte)
+  pub shows-plan : (s : Place) (answer : Answer) (day : List ℤ) (choice : List ℕ) → length s.standing.picks ≡ 32 → Found p a (search sound (clauses_in p) 0 [] a) s → Plans p s answer (replicate times no_time) day (replicate picks blank_byte) choice → Shows i answer day choice (replicate room blank_byte)
   unfolding shown
   shows-plan s answer day choice long h k =
       shows-as i answer day choice _ (shown i (found (positions s) h.before (a - s.visits))) (shown-is (found (positions s) h.before (a - s.visits)) h.is)
       (k.says ∙ ap₂ Plan (let z : s.visits ≡ i.allowance - (a - s.visits) = omega (arith, h.spent, accepts.allows) in z) (sym (plan-first sound sound-decides (clauses_in p) a (positions s) h.before (a - s.visits) h.is).1))
       (k.day ∙ ap₂ ◌++◌ (ap₂ (λ (n : ℕ) (cs : List Clause). latest_of n (chosen cs (positions s))) accepts.reads.events (sym accepts.reads.clauses)) (drop-replicate p.n times no_time ∙ ap₂ (λ (x y : ℕ). replicate (x - y) no_time) (sym accepts.has-times) accepts.reads.events))
-      (k.choice ∙ ap (λ (r : List ℕ). positions s ++ r) (drop-replicate p.m picks blank_byte ∙ ap₂ (λ (x y : ℕ). replicate (x - y) blank_byte) (sym accepts.has-picks) (sym h.whole ∙ sym (deep p laid s.picks s.k h.inside long))))
+      (k.choice ∙ ap (λ (r : List ℕ). positions s ++ r) (drop-replicate p.m picks blank_byte ∙ ap₂ (λ (x y : ℕ). replicate (x - y) blank_byte) (sym accepts.has-picks) (sym h.whole ∙ sym (deep p s.standing.picks s.standing.k h.inside long))))
       (ap (λ (m : ℕ). replicate m blank_byte) (sym accepts.has_room))
 
   -- none: the rows fit, or they don't

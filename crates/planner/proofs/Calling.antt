@@ -1,5 +1,5 @@
 -- A call of `plan` over slices that it filled: as long as they were, and cleared. Assumes nothing.
-use mathlib.Core.Path.{◌≡◌, refl, sym, ap, ◌∙◌, subst}
+use mathlib.Core.Path.{◌≡◌, sym, ap, ◌∙◌, subst}
 use mathlib.Core.List.{List}
 use Prim.Native.Nat.{ℕ, ◌≤◌}
 use native.Mathlib.Omega.{arith}
@@ -48,12 +48,12 @@ module _ (n : ℕ) (triples : List ℤ) (counts : List ℕ) (allowance : ℕ) (t
       (subst (λ (x : List ℕ). Shows own (Refused number) (replicate (length t₀) no_time) x r) (sym f)
       (subst (λ (x : List ℕ). Shows own (Refused number) (replicate (length t₀) no_time) (replicate (length p₀) blank_byte) x) (sym g) (shows-refused own number number_is h)))
 
-  pub accepted-call : number ≡ 0 → (q : Problem) → Reads (given n triples counts) q → Accepts own q allowance (length t) (length p) (length r)
-  accepted-call z q h =
+  pub accepted-call : number ≡ 0 → (q : Problem) → Reads (given n triples counts) q → (v : ℕ) → v ≡ allowance → Accepts own q v (length t) (length p) (length r)
+  accepted-call z q h v w =
       record {
         reads = h;
         taken = sym number_is ∙ z;
-        allows = refl;
+        allows = sym w;
         has-times = sym (filled t₀ t no_time e);
         has-picks = sym (filled p₀ p blank_byte f);
         has_room = sym (filled r₀ r blank_byte g);

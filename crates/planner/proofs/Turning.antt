@@ -1,5 +1,4 @@
 -- What is left by how the run of the search ended. Assumes nothing.
-use mathlib.Core.Logic.{◌⊎◌, ⊎_elim}
 use mathlib.Core.Path.{◌≡◌, sym, ap, ◌∙◌, subst}
 use mathlib.Core.Bool.{true}
 use mathlib.Core.List.{List, []}
@@ -13,34 +12,20 @@ use Rattle.meaning.specs.declared.Answer.TheVariants.{Stopped}
 use Rattle.meaning.specs.Limits.{most_allowance, blank_byte, no_time}
 use Rattle.meaning.specs.Plain.{chosen, rank, times_of}
 use Rattle.meaning.specs.Decision.{sound}
-use Rattle.meaning.specs.Search.{Outcome, search}
+use Rattle.meaning.specs.Search.{search}
 use Rattle.meaning.specs.Screen.{Shows}
 use Rattle.meaning.proofs.Deciding.{sound-decides}
 use Rattle.meaning.proofs.First.{plan-first}
 use Rattle.meaning.proofs.Rows.{rows_few}
 use Rattle.problem.specs.declared.Problem.{Problem}
-use Rattle.problem.specs.Laid.{clauses_in, Laid}
+use Rattle.problem.specs.Laid.{clauses_in}
 use Rattle.search.specs.declared.Place.{Place}
-use Rattle.search.specs.declared.Turn.{Turn}
-use Rattle.search.specs.declared.Turn.TheVariants.{On, Plan, Closed, Stop}
-use Rattle.search.specs.Steps.{positions, most_rows, Found, Ended, Stopped as Halted, Ends}
+use Rattle.search.specs.Steps.{positions, most_rows, Found, Ended, Stopped as Halted}
 use Rattle.search.proofs.Ranks.{laid-short}
 use Rattle.planner.specs.Call.{Answers, Cleared, Closes, Plans}
 use Rattle.planner.proofs.Answering.{shows-stopped, shows-plan, shows-none}
 
--- a turn that is neither a plan nor the end
-pub halted : (p : Problem) (a : ℕ) (o : Outcome) (t : Turn) (s : Place) (reasons : List ℕ) → (t ≡ On) ⊎ (t ≡ Stop) → Ends p a o t s reasons → Halted p a o s
-halted p a o t s reasons k h =
-    ⊎_elim (λ (e : t ≡ On). absurd (subst (λ (x : Turn). Ends p a o x s reasons) e h)) (λ (e : t ≡ Stop). subst (λ (x : Turn). Ends p a o x s reasons) e h) k
-
--- a turn that is the end, and one that is a plan
-pub ended : (p : Problem) (a : ℕ) (o : Outcome) (t : Turn) (s : Place) (reasons : List ℕ) → t ≡ Closed → Ends p a o t s reasons → Ended p a o s reasons
-ended p a o t s reasons e h = subst (λ (x : Turn). Ends p a o x s reasons) e h
-
-pub planned : (p : Problem) (a : ℕ) (o : Outcome) (t : Turn) (s : Place) (reasons : List ℕ) → t ≡ Plan → Ends p a o t s reasons → Found p a o s
-planned p a o t s reasons e h = subst (λ (x : Turn). Ends p a o x s reasons) e h
-
-module _ (p : Problem) (laid : Laid p) (a : ℕ) (s : Place) where
+module _ (p : Problem) (a : ℕ) (s : Place) where
   -- the selection of a plan is sound
   pub plan-sound : Found p a (search sound (clauses_in p) 0 [] a) s → sound (chosen (clauses_in p) (positions s)) ≡ true
   plan-sound h =
@@ -50,7 +35,7 @@ module _ (p : Problem) (laid : Laid p) (a : ℕ) (s : Place) where
   -- the rows of none are few
   pub none-few : (reasons : List ℕ) → a ≤ most_allowance → Ended p a (search sound (clauses_in p) 0 [] a) s reasons → s.rows ≤ most_rows
   none-few reasons l h =
-      omega (arith, h.counted, rows_few sound (clauses_in p) a h.before h.rows _ (laid-short p laid 0 p.m (omega arith)) (is_true (sound []) (sound-decides.whole [] (times_of []) tt)) h.is)
+      omega (arith, h.counted, rows_few sound (clauses_in p) a h.before h.rows _ (laid-short p 0 p.m (omega arith)) (is_true (sound []) (sound-decides.whole [] (times_of []) tt)) h.is)
 
   module _ (timetable : List ℤ) (picks reasons : List ℕ) (clear : Cleared timetable picks reasons) where
     abbrev T : ℕ
@@ -65,17 +50,17 @@ module _ (p : Problem) (laid : Laid p) (a : ℕ) (s : Place) where
     pub answers-closed : (entry exit : List ℕ) (answer : Answer) → length entry ≡ length reasons → Ended p a (search sound (clauses_in p) 0 [] a) s entry → Closes p s entry answer exit → Answers p a T P R answer timetable picks exit
     answers-closed entry exit answer size h k =
         record {
-          shows = λ i accepts. subst (λ (t : List ℤ). Shows i answer t picks exit) (sym clear.times) (subst (λ (q : List ℕ). Shows i answer (replicate T no_time) q exit) (sym clear.choice) (shows-none p laid a i T P R accepts s entry exit answer size h k));
+          shows = λ i accepts. subst (λ (t : List ℤ). Shows i answer t picks exit) (sym clear.times) (subst (λ (q : List ℕ). Shows i answer (replicate T no_time) q exit) (sym clear.choice) (shows-none p a i T P R accepts s entry exit answer size h k));
         }
 
     pub answers-stopped : (answer : Answer) (entry exit : List ℕ) → length entry ≡ length reasons → exit ≡ replicate (length entry) blank_byte → answer ≡ Stopped s.visits (rank (clauses_in p) (positions s)) → Halted p a (search sound (clauses_in p) 0 [] a) s → Answers p a T P R answer timetable picks exit
     answers-stopped answer entry exit size blank says h =
         record {
-          shows = λ i accepts. subst (λ (r : List ℕ). Shows i answer timetable picks r) (sym (blank ∙ ap (λ (n : ℕ). replicate n blank_byte) size)) (subst (λ (t : List ℤ). Shows i answer t picks (replicate R blank_byte)) (sym clear.times) (subst (λ (q : List ℕ). Shows i answer (replicate T no_time) q (replicate R blank_byte)) (sym clear.choice) (subst (λ (x : Answer). Shows i x (replicate T no_time) (replicate P blank_byte) (replicate R blank_byte)) (sym says) (shows-stopped p laid a i T P R accepts s h))));
+          shows = λ i accepts. subst (λ (r : List ℕ). Shows i answer timetable picks r) (sym (blank ∙ ap (λ (n : ℕ). replicate n blank_byte) size)) (subst (λ (t : List ℤ). Shows i answer t picks (replicate R blank_byte)) (sym clear.times) (subst (λ (q : List ℕ). Shows i answer (replicate T no_time) q (replicate R blank_byte)) (sym clear.choice) (subst (λ (x : Answer). Shows i x (replicate T no_time) (replicate P blank_byte) (replicate R blank_byte)) (sym says) (shows-stopped p a i T P R accepts s h))));
         }
 
-    pub answers-found : (answer : Answer) (entry exit : List ℕ) (day : List ℤ) (choice : List ℕ) → length s.picks ≡ 32 → length entry ≡ length reasons → exit ≡ replicate (length entry) blank_byte → Found p a (search sound (clauses_in p) 0 [] a) s → Plans p s answer timetable day picks choice → Answers p a T P R answer day choice exit
+    pub answers-found : (answer : Answer) (entry exit : List ℕ) (day : List ℤ) (choice : List ℕ) → length s.standing.picks ≡ 32 → length entry ≡ length reasons → exit ≡ replicate (length entry) blank_byte → Found p a (search sound (clauses_in p) 0 [] a) s → Plans p s answer timetable day picks choice → Answers p a T P R answer day choice exit
     answers-found answer entry exit day choice long size blank h k =
         record {
-          shows = λ i accepts. subst (λ (r : List ℕ). Shows i answer day choice r) (sym (blank ∙ ap (λ (n : ℕ). replicate n blank_byte) size)) (shows-plan p laid a i T P R accepts s answer day choice long h (subst (λ (t : List ℤ). Plans p s answer t day (replicate P blank_byte) choice) clear.times (subst (λ (q : List ℕ). Plans p s answer timetable day q choice) clear.choice k)));
+          shows = λ i accepts. subst (λ (r : List ℕ). Shows i answer day choice r) (sym (blank ∙ ap (λ (n : ℕ). replicate n blank_byte) size)) (shows-plan p a i T P R accepts s answer day choice long h (subst (λ (t : List ℤ). Plans p s answer t day (replicate P blank_byte) choice) clear.times (subst (λ (q : List ℕ). Plans p s answer timetable day q choice) clear.choice k)));
         }

@@ -2,24 +2,25 @@
 // day `fresh_day`, `add_fact`, `add_fact_to` and `read_day`. Each answers every input; none asks anything of its caller.
 #![tactic(auto)]
 
-ghost use Rattle.std.specs.Prelude.{◌≡◌, true, ◌++◌, ℕ, ◌≤◌, length, take, drop};
+ghost use Rattle.std.specs.Prelude.{◌≡◌, true, ◌++◌, ℕ, ◌≤◌, length, take, drop, IfOk};
 ghost use Rattle.meaning.specs.Limits.{most_allowance};
+ghost use Rattle.meaning.specs.Refusal.{told_as};
 ghost use Rattle.meaning.specs.declared.Answer.TheVariants.{Stopped};
 ghost use Rattle.meaning.specs.Plain.{chosen, rank};
 ghost use Rattle.meaning.specs.Decision.{sound, latest_of};
 ghost use Rattle.meaning.specs.Screen.{refusal, Shows};
-ghost use Rattle.problem.specs.Laid.{Laid, clauses_in};
+ghost use Rattle.problem.specs.Laid.{clauses_in};
 ghost use Rattle.problem.specs.Reads.{given, Reads};
 ghost use Rattle.search.specs.Standing.{Inside};
 ghost use Rattle.search.specs.Steps.{positions, most_rows};
 ghost use Rattle.planner.specs.Call.{call, Cleared, Answers, Closes, Plans};
 
 pub use lamps::lamps;
-use meaning::Answer;
-use problem::{Checked, Problem, ROW};
+use meaning::{Answer, Refusal};
+use problem::{CLAUSES, Problem, ROW};
 pub use readers::{read_reasons, read_timetable};
 pub use script::{read_script, write_script};
-use search::{Place, Turn};
+use search::{End, Place};
 pub use slider::slide;
 pub use standing::{add_fact, add_fact_to, fresh_day, read_day};
 
@@ -31,7 +32,7 @@ const NO_TIME: i32 = 1;
 
 const BLANK: u8 = 255;
 
-// The refusal's number, or 0 with the problem: the problem's own, then 7 and 8.
+// The problem of an accepted call; or the refusal: the problem's own, then 7 and 8.
 fn admitted(
     n: u32,
     triples: &[i32],
@@ -39,93 +40,77 @@ fn admitted(
     allowance: u32,
     times: usize,
     picks: usize,
-) -> Checked
-    ensures by_index { (room : ℕ) → result.number ≡ refusal (call n triples.now counts.now allowance times picks room) }
-    ensures reads { result.number ≡ 0 → Reads (given n triples.now counts.now) result.problem }
+) -> Result<Problem, Refusal>
+    ensures by_index { (room : ℕ) → told_as result ≡ refusal (call n triples.now counts.now allowance times picks room) }
+    ensures reads { IfOk result (Reads (given n triples.now counts.now)) }
 {
-    let c = problem::check(n, triples, counts);
-    if c.number != 0 {
-        return c;
-    }
-    let problem = c.problem;
+    let p = problem::check(n, triples, counts)?;
     if ALLOWANCE < allowance {
-        return Checked { number: 7, problem };
+        return Err(Refusal::Allowance);
     }
-    if times < n as usize {
-        return Checked { number: 8, problem };
+    if times < n as usize || picks < counts.len() {
+        return Err(Refusal::Lent);
     }
-    if picks < counts.len() {
-        return Checked { number: 8, problem };
-    }
-    c
+    Ok(p)
 }
 
 // The latest timetable of the selection of the picks, in place of the first n times.
-fn put_day(p: Problem, picks: [u8; 32], timetable: &mut [i32])
-    requires { Laid p × Inside p picks p.m × (p.n ≤ length timetable.old) × (sound (chosen (clauses_in p) (take p.m picks)) ≡ true) }
+fn put_day(p: Problem, picks: [u8; CLAUSES], timetable: &mut [i32])
+    requires { Inside p picks p.m × (p.n ≤ length timetable.old) × (sound (chosen (clauses_in p) (take p.m picks)) ≡ true) }
     ensures { timetable.new ≡ latest_of p.n (chosen (clauses_in p) (take p.m picks)) ++ drop p.n timetable.old }
 {
     let f = search::chosen_of(p, picks);
-    let t = held::tested(p, f);
-    let times = t.times;
-    let n = p.n;
-    lent::put_negated(timetable, &times[..n]);
-}
-
-// The first m picks, in place of the first m bytes.
-fn put_picks(m: usize, picks: [u8; 32], out: &mut [u8])
-    requires { (m ≤ 32) × (m ≤ length out.old) }
-    ensures { out.new ≡ take m picks ++ drop m out.old }
-{
-    lent::put_bytes(out, 0, &picks[..m]);
+    if let Some(times) = f.tested(p) {
+        lent::put_negated(timetable, &times[..p.n]);
+    }
 }
 
 // A search that found the plan at the place s.
 fn found(p: Problem, s: Place, timetable: &mut [i32], picks: &mut [u8]) -> Answer
-    requires { Laid p × Inside p s.picks s.k × (s.k ≡ p.m) × (p.n ≤ length timetable.old) × (p.m ≤ length picks.old) × (sound (chosen (clauses_in p) (positions s)) ≡ true) }
+    requires { Inside p s.standing.picks s.standing.k × (s.standing.k ≡ p.m) × (p.n ≤ length timetable.old) × (p.m ≤ length picks.old) × (sound (chosen (clauses_in p) (positions s)) ≡ true) }
     ensures { Plans p s result timetable.old timetable.new picks.old picks.new }
 {
-    let chosen = s.picks;
-    let k = s.k;
-    put_day(p, chosen, timetable);
-    put_picks(k, chosen, picks);
+    let standing = s.standing;
+    let k = standing.k;
+    put_day(p, standing.picks, timetable);
+    picks[..k].copy_from_slice(&standing.picks[..k]);
     Answer::Plan {
         visits: s.visits,
-        before: search::rank_of(p, chosen, k),
+        before: search::rank_of(p, standing),
     }
 }
 
 // A search that ended without a plan at the place s: listed where the rows fit, and else no list.
 fn closed(p: Problem, s: Place, reasons: &mut [u8]) -> Answer
-    requires { Laid p × (s.rows ≤ most_rows) }
+    requires { s.rows ≤ most_rows }
     ensures { Closes p s reasons.old result reasons.new }
 {
+    let visits = s.visits;
     let before = search::under(p, 0);
-    let rows = s.rows;
-    if rows * ROW <= reasons.len() {
+    let rows = s.rows as u64;
+    if s.rows * ROW <= reasons.len() {
         return Answer::None {
-            visits: s.visits,
+            visits,
             before,
-            rows: rows as u64,
+            rows,
         };
     }
-    lent::fill_bytes(reasons, BLANK);
+    reasons.fill(BLANK);
     Answer::Unlisted {
-        visits: s.visits,
+        visits,
         before,
-        rows: rows as u64,
+        rows,
     }
 }
 
 // A search that stopped before the place s.
 fn stopped(p: Problem, s: Place) -> Answer
-    requires { Laid p × Inside p s.picks s.k }
+    requires { Inside p s.standing.picks s.standing.k }
     ensures { result ≡ Stopped s.visits (rank (clauses_in p) (positions s)) }
 {
-    let picks = s.picks;
     Answer::Stopped {
         visits: s.visits,
-        before: search::rank_of(p, picks, s.k),
+        before: search::rank_of(p, s.standing),
     }
 }
 
@@ -137,20 +122,17 @@ fn planned(
     picks: &mut [u8],
     reasons: &mut [u8],
 ) -> Answer
-    requires { Laid p × (allowance ≤ most_allowance) × Cleared timetable.old picks.old reasons.old × (p.n ≤ length timetable.old) × (p.m ≤ length picks.old) }
+    requires { (allowance ≤ most_allowance) × Cleared timetable.old picks.old reasons.old × (p.n ≤ length timetable.old) × (p.m ≤ length picks.old) }
     ensures { Answers p allowance (length timetable.old) (length picks.old) (length reasons.old) result timetable.new picks.new reasons.new }
 {
-    let w = search::run(p, allowance, reasons);
-    let turn = w.turn;
-    let s = w.place;
-    match turn {
-        Turn::Closed => closed(p, s, reasons),
-        Turn::Plan => {
-            lent::fill_bytes(reasons, BLANK);
+    match search::run(p, allowance, reasons) {
+        End::Closed(s) => closed(p, s, reasons),
+        End::Plan(s) => {
+            reasons.fill(BLANK);
             found(p, s, timetable, picks)
         }
-        Turn::On | Turn::Stop => {
-            lent::fill_bytes(reasons, BLANK);
+        End::Stop(s) => {
+            reasons.fill(BLANK);
             stopped(p, s)
         }
     }
@@ -169,13 +151,13 @@ pub fn plan(
 ) -> Answer
     ensures { Shows (call n triples.now counts.now allowance (length timetable.old) (length picks.old) (length reasons.old)) result timetable.new picks.new reasons.new }
 {
-    lent::fill_numbers(timetable, NO_TIME);
-    lent::fill_bytes(picks, BLANK);
-    lent::fill_bytes(reasons, BLANK);
-    let c = admitted(n, triples, counts, allowance, timetable.len(), picks.len());
-    if c.number != 0 {
-        return Answer::Refused { number: c.number };
+    timetable.fill(NO_TIME);
+    picks.fill(BLANK);
+    reasons.fill(BLANK);
+    match admitted(n, triples, counts, allowance, timetable.len(), picks.len()) {
+        Ok(p) => planned(p, u64::from(allowance), timetable, picks, reasons),
+        Err(refusal) => Answer::Refused {
+            number: u8::from(refusal),
+        },
     }
-    let p = c.problem;
-    planned(p, allowance as u64, timetable, picks, reasons)
 }

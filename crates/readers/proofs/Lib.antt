@@ -1,6 +1,6 @@
 pub mod Bytes
-pub mod Rows
 pub mod Marks
+pub mod Rows
 pub mod Walking
 pub mod Clauses
 pub mod Standings

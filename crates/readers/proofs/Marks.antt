@@ -2,7 +2,8 @@
 use mathlib.Core.Path.{◌≡◌, refl, sym, ap, ◌∙◌}
 use mathlib.Core.Bool.{Bool, true, false, cond, ◌&&◌, and-false}
 use mathlib.Core.List.{List, [], ◌∷◌}
-use Prim.Native.Nat.{ℕ, zero, suc, ◌-◌, ◌<◌, ◌≤◌}
+use Prim.Native.Nat.{ℕ, zero, suc, ◌+◌, ◌-◌, ◌<◌, ◌≤◌}
+use native.Mathlib.Numerals.{add-one}
 use native.Mathlib.Omega.{arith}
 use borrow.Author.Tests.{lt-ltb, le-ltb, le-leb, lt-leb, eq-eqb, ne_eqb}
 use lib.Dec.{eqb, leb}
@@ -30,6 +31,19 @@ numbers-few (b ∷ bs) = by (eqb b blank_byte) (numbers-few bs)
     by true h = omega arith
     by false h = omega arith
 
+-- how many there are, from one byte to the next
+pub numbers-none : length (numbers []) ≡ 0
+unfolding numbers
+numbers-none = refl
+
+pub numbers-hit : (b : ℕ) (bs : List ℕ) → b ≡ blank_byte → length (numbers (b ∷ bs)) ≡ 0
+unfolding numbers
+numbers-hit b bs e = rw (eq-eqb b blank_byte e) refl
+
+pub numbers-miss : (b : ℕ) (bs : List ℕ) → (b ≡ blank_byte → ⊥) → length (numbers (b ∷ bs)) ≡ length (numbers bs) + 1
+unfolding numbers
+numbers-miss b bs n = rw (ne_eqb b blank_byte n, add-one (length (numbers bs))) refl
+
 filled-rest : (row : List ℕ) → filled row ≡ blank (drop (length (numbers row)) row)
 unfolding filled numbers blank
 filled-rest [] = refl
@@ -50,11 +64,6 @@ same-blank (suc n) (b ∷ bs) e = ap (λ (t : Bool). eqb b blank_byte && t) (sam
 same-mark : (W b m : ℕ) (bs : List ℕ) → suc (length bs) ≡ W → same (b ∷ bs) (mark_row W m) ≡ (eqb b m && blank bs)
 unfolding same mark_row
 same-mark W b m bs e = ap (λ (t : Bool). eqb b m && t) (same-blank (W - 1) bs (omega arith))
-
-pub kind-none : (W : ℕ) (row : List ℕ) → length row ≡ 0 → kind W row ≡ bad
-unfolding kind
-kind-none W [] e = refl
-kind-none W (b ∷ bs) e = absurd (omega arith)
 
 -- the kind of a row, by its first byte
 pub kind-ring : (W : ℕ) (row : List ℕ) → (length row ≡ 0 → ⊥) → get_or row 0 0 < 128 → kind W row ≡ ring

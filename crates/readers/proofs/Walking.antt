@@ -9,6 +9,7 @@ use native.Mathlib.Numerals.{add-one}
 use native.Mathlib.Omega.{arith}
 use borrow.Author.Tests.{eqb-true, eq-eqb, ne_eqb, lt-ltb, le-ltb}
 use lib.Dec.{eqb, ltb}
+use Rattle.std.proofs.lemmas.Bool.Decides.{nat_tests}
 use lib.IntN.{ℤ, pos, sub_ℕ, ◌+ℤ◌}
 use lib.Signed.{lt_z}
 use lib.ListN.{length, drop, drop_of_length-le}
@@ -20,16 +21,24 @@ use Rattle.meaning.specs.Reasons.{named, given, walk, loops}
 use Rattle.problem.specs.declared.Problem.{Problem}
 use Rattle.problem.specs.Arcs.{Net, bias, at, head, tail, bound, arc, Arc, Known}
 use Rattle.problem.specs.Laid.{arcs}
-use Rattle.readers.specs.Leaves.{is_in}
+use Rattle.std.specs.List.{list_any}
+
+-- an equality test, the other way round
+eqb_comm : (a b : ℕ) → eqb a b ≡ eqb b a
+eqb_comm a b = grind (arith, nat_tests)
+
+-- a number is one of the list
+abbrev pub is_in : List ℕ → ℕ → Bool
+is_in L b = list_any (λ j. eqb j b) L
 
 -- the fact with a number is the arc of that number, where the number is a fact's
 pub named-arc : (g : Net) (L : List ℕ) (b : ℕ) → named (map (arc g) L) b ≡ cond (is_in L b) (some (arc g b)) none
-unfolding named is_in
+unfolding named
 named-arc g [] b = refl
-named-arc g (j ∷ more) b = by (eqb b j) refl (named-arc g more b)
+named-arc g (j ∷ more) b = rw (eqb_comm b j) (by (eqb j b) refl (named-arc g more b))
   where
-    by : (t : Bool) → eqb b j ≡ t → named (map (arc g) more) b ≡ cond (is_in more b) (some (arc g b)) none → cond t (some (arc g j)) (named (map (arc g) more) b) ≡ cond (t || is_in more b) (some (arc g b)) none
-    by true e h = ap (λ (j : ℕ). some (arc g j)) (sym (eqb-true b j e))
+    by : (t : Bool) → eqb j b ≡ t → named (map (arc g) more) b ≡ cond (is_in more b) (some (arc g b)) none → cond t (some (arc g j)) (named (map (arc g) more) b) ≡ cond (t || is_in more b) (some (arc g b)) none
+    by true e h = ap (λ (j : ℕ). some (arc g j)) (eqb-true j b e)
     by false e h = h
 
 -- a number that is one of the list stands somewhere in it
@@ -39,12 +48,11 @@ record Found (L : List ℕ) (b : ℕ) : Type 0 where
   is : at L place ≡ b
 
 found : (L : List ℕ) (b : ℕ) → is_in L b ≡ true → Found L b
-unfolding is_in
 found [] b e = absurd (never (cc))
-found (j ∷ more) b e = by (eqb b j) refl e (λ h. found more b h)
+found (j ∷ more) b e = by (eqb j b) refl e (λ h. found more b h)
   where
-    by : (t : Bool) → eqb b j ≡ t → (t || is_in more b) ≡ true → (is_in more b ≡ true → Found more b) → Found (j ∷ more) b
-    by true q e f = record { place = 0; below = omega arith; is = sym (eqb-true b j q) }
+    by : (t : Bool) → eqb j b ≡ t → (t || is_in more b) ≡ true → (is_in more b ≡ true → Found more b) → Found (j ∷ more) b
+    by true q e f = record { place = 0; below = omega arith; is = eqb-true j b q }
     by false q e f = let w = f e in record { place = suc w.place; below = omega (arith, w.below); is = w.is }
 
 pub known-arc : (p : Problem) (L : List ℕ) (b : ℕ) → Known (arcs p) p.n L → is_in L b ≡ true → Arc (arcs p) p.n b
@@ -89,24 +97,28 @@ module _ (g : Net) (L : List ℕ) where
       ∙ given-fact (is_in L b) (arc g b) (λ a. walk (map (arc g) L) a.y a.x a.c bs)
 
   -- a cycle is a walk of its numbers from where the first one starts
-  pub loops-on : (l : List ℕ) → 0 < length l → loops (map (arc g) L) l ≡ walk_on g L (tail g (at l 0)) (tail g (at l 0)) 0 0 l
+  pub loops-on : (l : List ℕ) (j : ℕ) → 0 < length l → j ≡ at l 0 → loops (map (arc g) L) l ≡ walk_on g L (tail g j) (tail g j) 0 0 l
   unfolding walk_on
-  loops-on [] h = absurd (not-suc-le-zero h)
-  loops-on (b ∷ bs) h =
-      let e : bound g b ≡ 0 + bound g b = omega arith in
-      loops-first b bs
-      ∙ ap (λ (s : ℕ). is_in L b && walk (map (arc g) L) (tail g b) (head g b) (sub_ℕ s (1 * bias)) bs) e
-      ∙ ap (λ (t : Bool). is_in L b && t) (walk-on (tail g b) (head g b) 1 (0 + bound g b) bs)
-      ∙ ap (λ (t : Bool). is_in L b && (t && walk_on g L (tail g b) (head g b) 1 (0 + bound g b) bs)) (sym (eq-eqb (tail g b) (tail g b) refl))
+  loops-on l j h q = rw q (on l h)
+    where
+      on : (l : List ℕ) → 0 < length l → loops (map (arc g) L) l ≡ walk_on g L (tail g (at l 0)) (tail g (at l 0)) 0 0 l
+      on [] h = absurd (not-suc-le-zero h)
+      on (b ∷ bs) h =
+          let e : bound g b ≡ 0 + bound g b = omega arith in
+          loops-first b bs
+          ∙ ap (λ (s : ℕ). is_in L b && walk (map (arc g) L) (tail g b) (head g b) (sub_ℕ s (1 * bias)) bs) e
+          ∙ ap (λ (t : Bool). is_in L b && t) (walk-on (tail g b) (head g b) 1 (0 + bound g b) bs)
+          ∙ ap (λ (t : Bool). is_in L b && (t && walk_on g L (tail g b) (head g b) 1 (0 + bound g b) bs)) (sym (eq-eqb (tail g b) (tail g b) refl))
 
   pub loops-none : (l : List ℕ) → length l ≡ 0 → loops (map (arc g) L) l ≡ false
   unfolding loops
   loops-none [] e = refl
   loops-none (b ∷ bs) e = absurd (omega arith)
 
-  pub loops-foreign : (l : List ℕ) → 0 < length l → is_in L (at l 0) ≡ false → loops (map (arc g) L) l ≡ false
-  loops-foreign [] h e = absurd (not-suc-le-zero h)
-  loops-foreign (b ∷ bs) h e = loops-first b bs ∙ ap (λ (t : Bool). t && walk (map (arc g) L) (tail g b) (head g b) (sub_ℕ (bound g b) bias) bs) e
+  pub loops-foreign : (l : List ℕ) (b : ℕ) → 0 < length l → b ≡ at l 0 → is_in L b ≡ false → loops (map (arc g) L) l ≡ false
+  loops-foreign [] b h q e = absurd (not-suc-le-zero h)
+  loops-foreign (a ∷ bs) b h q e =
+      loops-first a bs ∙ ap (λ (t : Bool). t && walk (map (arc g) L) (tail g a) (head g a) (sub_ℕ (bound g a) bias) bs) (ap (is_in L) (sym q) ∙ e)
 
   -- one turn of the walk
   module _ (l : List ℕ) (start here i s : ℕ) (h : i < length l) where
@@ -124,11 +136,11 @@ module _ (g : Net) (L : List ℕ) where
       on-more e n = rw (drop-cons l i 0 h, e, ← q, eq-eqb (tail g j) here n, add-one i) refl
 
   -- the end of the walk
-  module _ (l : List ℕ) (start here i s : ℕ) (h : length l ≤ i) where
+  module _ (l : List ℕ) (start here i s : ℕ) (h : i ≡ length l) where
     pub on-open : (here ≡ start → ⊥) → walk_on g L start here i s (drop i l) ≡ false
     unfolding walk_on
-    on-open n = rw (drop_of_length-le l h, ne_eqb here start n) refl
+    on-open n = let o : length l ≤ i = omega arith in rw (drop_of_length-le l o, ne_eqb here start n) refl
 
-    pub on-closed : here ≡ start → walk_on g L start here i s (drop i l) ≡ ltb s (i * bias)
+    pub on-closed : here ≡ start → walk_on g L start here i s (drop i l) ≡ ltb s (length l * bias)
     unfolding walk_on
-    on-closed e = rw (drop_of_length-le l h, eq-eqb here start e) refl
+    on-closed e = let o : length l ≤ i = omega arith in rw (drop_of_length-le l o, eq-eqb here start e, h) refl

@@ -1,7 +1,6 @@
 -- `lamps::counts_of` meets its contract: after k clauses the first k counts are theirs and the rest is 0. Assumes nothing.
 use mathlib.Core.Path.{◌≡◌}
 use mathlib.Core.List.{◌++◌, map}
-use Prim.Native.Nat.{◌-◌, ◌≤◌}
 use lib.ListN.{take, drop, replicate}
 use Rattle.meaning.specs.Limits.{most_clauses}
 use Rattle.meaning.specs.Lamps.{ones, lit}
@@ -9,7 +8,4 @@ use Rattle.problem.specs.Laid.{clauses_in}
 use Rattle.lamps.proofs.counts_of.Given as goal
 
 abbrev pub invariant-loop-k : goal.invariant-loop-k
-invariant-loop-k l = (l.each ≡ take l.k (map ones (lit (clauses_in l.p))) ++ drop l.k (replicate most_clauses 0)) × (l.k ≤ l.p.m)
-
-abbrev pub decreases-loop-k : goal.decreases-loop-k
-decreases-loop-k l = l.p.m - l.k
+invariant-loop-k l = l.each ≡ take l.k (map ones (lit (clauses_in l.p))) ++ drop l.k (replicate most_clauses 0)

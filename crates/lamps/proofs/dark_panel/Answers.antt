@@ -5,4 +5,4 @@ use Rattle.lamps.proofs.dark_panel.Goals as goal
 
 pub returns : goal.returns
 unfolding dark
-returns c = refl
+returns c = rw c.from.ensures refl

@@ -2,15 +2,15 @@
 use mathlib.Core.Path.{◌≡◌}
 use Prim.Native.Nat.{◌+◌, ◌-◌, ◌≤◌}
 use Rattle.meaning.specs.Lamps.{forced}
-use Rattle.problem.specs.Arcs.{Known}
+use Rattle.problem.specs.Arcs.{Known, places}
 use Rattle.problem.specs.Laid.{arcs, clauses_from}
-use Rattle.facts.specs.Tests.{places}
 use Rattle.held.specs.Held.{held, facts_in}
 use Rattle.lamps.proofs.forced_facts.Given as goal
 
 abbrev pub invariant-loop-k : goal.invariant-loop-k
 invariant-loop-k l =
-    (facts_in l.p l.f ≡ forced (clauses_from l.p l.k (l.p.m - l.k))) × Known (arcs l.p) l.p.n (held l.f) × (l.f.at ≤ places) × (places ≤ l.f.at + (l.p.m - l.k)) × (l.k ≤ l.p.m)
-
-abbrev pub decreases-loop-k : goal.decreases-loop-k
-decreases-loop-k l = l.k
+    record {
+      is : facts_in l.p l.f ≡ forced (clauses_from l.p l.k (l.p.m - l.k));
+      known : Known (arcs l.p) l.p.n (held l.f);
+      room : places ≤ l.f.at + (l.p.m - l.k);
+    }

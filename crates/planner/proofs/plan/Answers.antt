@@ -1,24 +1,32 @@
 -- `planner::plan` meets its contract: the slices are cleared, then a refusal or the search. Assumes nothing.
-use mathlib.Core.Path.{sym, ◌∙◌}
+use mathlib.Core.Path.{refl, sym}
 use lib.ListN.{length}
+use Rattle.meaning.proofs.Refusals.{refused-some}
 use Rattle.problem.specs.Reads.{given}
 use Rattle.planner.specs.Call.{call}
 use Rattle.planner.proofs.Refusals.{room_of}
 use Rattle.planner.proofs.Calling.{refused-call, cleared, roomy-times, roomy-picks, accepted-call}
 use Rattle.planner.proofs.plan.Goals as goal
 
-pub returns-then-c-ne0 : goal.returns-then-c-ne0
-returns-then-c-ne0 c =
-    refused-call c.args.n c.args.triples.now c.args.counts.now c.args.allowance c.args.timetable.now c.fill_numbers.new.s c.args.picks.now c.fill_bytes.new.s c.args.reasons.now c.fill_bytes-2.new.s c.fill_numbers.ensures c.fill_bytes.ensures c.fill_bytes-2.ensures c.admitted-c.result.number c.admitted-c.ensures.by_index c.if-c-ne0.true
-
 pub planned-requires : goal.planned-requires
 planned-requires c =
-    let z = c.if-c-ne0.false in
-    let reads = c.admitted-c.ensures.reads z in
-    let room = room_of (call c.args.n c.args.triples.now c.args.counts.now c.args.allowance (length c.fill_numbers.new.s) (length c.fill_bytes.new.s) 0) (sym (c.admitted-c.ensures.by_index 0) ∙ z) in
-    (reads.laid, room.allowed, cleared _ _ _ _ _ _ c.fill_numbers.ensures c.fill_bytes.ensures c.fill_bytes-2.ensures, roomy-times (length c.fill_numbers.new.s) room.times reads.events, roomy-picks (given c.args.n c.args.triples.now c.args.counts.now) c.admitted-c.result.problem reads (length c.fill_bytes.new.s) room.picks)
+    let a = c.args in
+    let reads = c.in-Ok.ensures.reads in
+    let room = room_of (call a.n a.triples.now a.counts.now a.allowance (length c.fill.new.self) (length c.fill-2.new.self) 0) (sym (c.in-Ok.ensures.by_index 0)) in (
+      rw c.from.ensures room.allowed,
+      cleared _ _ _ _ _ _ (c.fill.ensures.after (λ y e. e)) (c.fill-2.ensures.after (λ y e. e)) (c.fill-3.ensures.after (λ y e. e)),
+      roomy-times (length c.fill.new.self) room.times reads.events,
+      roomy-picks (given a.n a.triples.now a.counts.now) c.in-Ok.p reads (length c.fill-2.new.self) room.picks,
+    )
 
-pub returns : goal.returns
-returns c =
-    let z = c.if-c-ne0.false in
-    c.planned.ensures.shows _ (accepted-call c.args.n c.args.triples.now c.args.counts.now c.args.allowance c.args.timetable.now c.fill_numbers.new.s c.args.picks.now c.fill_bytes.new.s c.args.reasons.now c.fill_bytes-2.new.s c.fill_numbers.ensures c.fill_bytes.ensures c.fill_bytes-2.ensures c.admitted-c.result.number c.admitted-c.ensures.by_index z c.admitted-c.result.problem (c.admitted-c.ensures.reads z))
+pub returns-in-Ok : goal.returns-in-Ok
+returns-in-Ok c =
+    let a = c.args in
+    c.planned.ensures.shows _
+    (accepted-call a.n a.triples.now a.counts.now a.allowance a.timetable.now _ a.picks.now _ a.reasons.now _ (c.fill.ensures.after (λ y e. e)) (c.fill-2.ensures.after (λ y e. e)) (c.fill-3.ensures.after (λ y e. e)) _ c.in-Ok.ensures.by_index refl c.in-Ok.p c.in-Ok.ensures.reads _ c.from.ensures)
+
+pub returns-in-Err : goal.returns-in-Err
+returns-in-Err c =
+    let a = c.args in
+    rw c.from-in-Err.ensures
+    (refused-call a.n a.triples.now a.counts.now a.allowance a.timetable.now _ a.picks.now _ a.reasons.now _ (c.fill.ensures.after (λ y e. e)) (c.fill-2.ensures.after (λ y e. e)) (c.fill-3.ensures.after (λ y e. e)) _ c.in-Err.ensures.by_index (refused-some _))

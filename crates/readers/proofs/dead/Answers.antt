@@ -1,49 +1,45 @@
--- `readers::dead` meets its contract: what remains of the dead clause from row r on gives the same. Assumes nothing.
-use mathlib.Core.Path.{◌≡◌, sym}
-use Prim.Native.Nat.{◌≤◌}
-use native.Mathlib.Omega.{arith}
-use borrow.Author.Rules.{rules}
-use lib.ListN.{length}
-use Rattle.meaning.specs.Limits.{row_bytes}
-use Rattle.meaning.specs.Reasons.{rows_of}
-use Rattle.readers.proofs.Rows.{rows-count}
-use Rattle.readers.proofs.Readings.{dead-chosen, dead-past}
-use Rattle.readers.proofs.Turns.{test-start, test-end, test-number, test-decided, test-no, test-there, test-row}
+-- `readers::dead` meets its contract: what remains of the dead clause from alternative j on gives the same. Assumes nothing.
+use Rattle.std.proofs.Common.{◌≡◌, ℕ, suc, ◌+◌, ◌<◌, Bool, List, ◌∷◌, map, sym, ap, ◌∙◌, refl, arith}
+use Rattle.std.proofs.lemmas.Bool.Decides.{nat_tests}
+use Rattle.meaning.specs.Reasons.{cycle_over}
+use Rattle.problem.specs.declared.Problem.{Problem}
+use Rattle.problem.specs.Arcs.{at, arc}
+use Rattle.problem.specs.Laid.{arcs}
+use Rattle.readers.specs.declared.Facts.{Facts}
+use Rattle.readers.specs.Standing.{held, facts_in}
+use Rattle.readers.proofs.Standings.{decided-more}
+use Rattle.readers.proofs.Readings.{dead-other, dead-later, cycles-none, cycles-no, cycles-row, cycles-end}
 use Rattle.readers.proofs.dead.Goals as goal
 
-pub returns-then-d-k : goal.returns-then-d-k
-returns-then-d-k c = record { is = sym (dead-chosen c.args.p _ _ _ c.requires.1.all _ _ c.if-d-k.true); reached = tt }
+-- the alternative, in front of the facts
+tested : (p : Problem) (j : ℕ) (f g : Facts) (row : List ℕ) (b t : Bool) → held g ≡ j ∷ held f → b ≡ cycle_over (facts_in p g) row → b ≡ t → cycle_over (arc (arcs p) j ∷ facts_in p f) row ≡ t
+tested p j f g row b t e q r = ap (λ L. cycle_over (map (arc (arcs p)) L) row) (sym e) ∙ sym q ∙ r
 
-pub returns-then-p-d : goal.returns-then-p-d
-returns-then-p-d c =
-    let later : c.args.k ≤ c.args.d = omega arith in
-    record { is = sym (dead-past c.args.p _ _ _ c.requires.1.all _ _ later c.if-p-d.true); reached = tt }
+pub returns-then-not-contains : goal.returns-then-not-contains
+returns-then-not-contains c = dead-other c.args.p _ _ _ _ (λ l. grind (arith, nat_tests))
 
 pub loop-j-init : goal.loop-j-init
 loop-j-init c =
-    let h : length c.args.facts ≡ 65 = search rules in
-    let later : c.args.k ≤ c.args.d = omega arith in
-    test-start c.args.p c.requires.0 (rows_of row_bytes c.args.list.now) c.args.d c.args.k c.args.left _ _ c.args.facts c.args.from c.args.row h c.requires.1 later c.if-p-d.false c.wide-end.ensures c.wide-j.ensures (omega (arith, c.requires.2, rows-count row_bytes c.args.list.now))
+    let y : suc c.args.d ≡ c.args.d + 1 = omega arith in
+    dead-later c.args.p _ _ _ _ (grind (arith, nat_tests)) (grind (arith, nat_tests)) ∙ rw y refl
 
-pub overflow_cast-known : goal.overflow_cast-known
-overflow_cast-known c =
-    omega (arith, test-number _ c.requires.0 _ _ _ _ _ _ _ _ c.loop-j.invariant c.loop-j-test.true, c.requires.0.last)
+pub is_cycle_row-requires : goal.is_cycle_row-requires
+is_cycle_row-requires c =
+    let later : c.args.d < c.args.p.m = grind (arith, nat_tests) in
+    let n : c.loop-j.j < at c.args.p.starts c.args.p.m = omega (arith, c.args.p.laid.ends (c.args.d + 1) (omega arith)) in
+    let d = decided-more c.args.p _ c.loop-j.j c.args.facts c.with.result c.requires.decided c.with.ensures.0 c.with.ensures.1 (c.args.p.laid.alternative _ n) in
+    (d.known, d.within)
 
-pub cycle_at-requires : goal.cycle_at-requires
-cycle_at-requires c =
-    let t = test-decided _ c.requires.0 _ _ _ _ _ _ _ _ c.loop-j.invariant c.loop-j-test.true in (t.known, t.within)
+pub returns-in_err-row : goal.returns-in_err-row
+returns-in_err-row c = rw c.from_residual.ensures (c.loop-j.invariant ∙ cycles-none _ _ _ _ _ c.loop-j-test.true c.in_err-row.ensures.cases)
 
-pub returns-then-not-cycle_at : goal.returns-then-not-cycle_at
-returns-then-not-cycle_at c =
-    test-no _ c.requires.0 _ _ _ _ _ _ _ _ c.loop-j.invariant c.loop-j-test.true _ c.cycle_at.ensures c.if-not-cycle_at.true
-
-pub overflow_add-r : goal.overflow_add-r
-overflow_add-r c =
-    omega (arith, rows-count row_bytes c.args.list.now, test-there _ c.requires.0 _ _ _ _ _ _ _ _ c.loop-j.invariant c.loop-j-test.true _ c.cycle_at.ensures c.if-not-cycle_at.false)
+pub returns-then-not-is_cycle_row : goal.returns-then-not-is_cycle_row
+returns-then-not-is_cycle_row c =
+    c.loop-j.invariant ∙ cycles-no _ _ _ _ _ c.loop-j-test.true _ _ c.in_ok-row.ensures.cases.0 (tested c.args.p c.loop-j.j c.args.facts c.with.result _ _ _ c.with.ensures.0 c.is_cycle_row.ensures c.if-not-is_cycle_row.true)
 
 pub loop-j-preserved : goal.loop-j-preserved
 loop-j-preserved c =
-    test-row _ c.requires.0 _ _ _ _ _ _ _ _ c.loop-j.invariant c.loop-j-test.true _ c.cycle_at.ensures c.if-not-cycle_at.false
+    c.loop-j.invariant ∙ cycles-row _ _ _ _ _ c.loop-j-test.true _ _ c.in_ok-row.ensures.cases.0 (tested c.args.p c.loop-j.j c.args.facts c.with.result _ _ _ c.with.ensures.0 c.is_cycle_row.ensures c.if-not-is_cycle_row.false)
 
 pub returns : goal.returns
-returns c = test-end _ c.requires.0 _ _ _ _ _ _ _ _ c.loop-j.invariant c.loop-j-test.false
+returns c = c.loop-j.invariant ∙ cycles-end _ _ _ _ _ c.loop-j-test.false

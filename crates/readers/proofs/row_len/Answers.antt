@@ -1,17 +1,16 @@
--- `readers::row_len` meets its contract: no 255 among the first i bytes. Assumes nothing.
-use native.Mathlib.Omega.{arith}
-use Rattle.readers.proofs.Bytes.{numbers-end, numbers_more, numbers-none}
+-- `readers::row_len` meets its contract: the first 255 of the row stands after its numbers. Assumes nothing.
+use Rattle.std.proofs.Common.{rules, ◌≡◌, ◌≢◌, ℕ, length, sym, ◌∙◌}
+use borrow.Author.Tests.{tests}
+use Rattle.std.proofs.lemmas.Iterator.{YieldsList-from_slice, IsFirst-from_position, index_from_first}
+use Rattle.meaning.specs.Limits.{blank_byte}
+use Rattle.meaning.specs.Reasons.{numbers}
+use Rattle.readers.proofs.Marks.{numbers-none, numbers-hit, numbers-miss}
 use Rattle.readers.proofs.row_len.Goals as goal
 
-pub loop-i-init : goal.loop-i-init
-loop-i-init c = (omega arith, omega arith)
-
-pub returns-then-row-i : goal.returns-then-row-i
-returns-then-row-i c = omega (arith, c.loop-i.invariant.1, numbers-end c.args.row.now c.loop-i.i (omega arith) c.if-row-i.true)
-
-pub loop-i-preserved : goal.loop-i-preserved
-loop-i-preserved c =
-    (omega arith, omega (arith, c.loop-i.invariant.1, numbers_more c.args.row.now c.loop-i.i (omega arith) c.if-row-i.false))
-
 pub returns : goal.returns
-returns c = omega (arith, c.loop-i.invariant.1, numbers-none c.args.row.now c.loop-i.i (omega arith))
+returns c =
+    let row = c.args.row.now in
+    c.unwrap_or.ensures
+    ∙ sym
+    (index_from_first (λ l. length (numbers l)) (λ (b : ℕ). b ≡ blank_byte) (λ b. b ≢ blank_byte) numbers-none numbers-hit numbers-miss row _
+    (IsFirst-from_position _ _ _ (λ (b : ℕ). b ≡ blank_byte) (λ b. b ≢ blank_byte) c.position.ensures.ran (YieldsList-from_slice row cc) (λ x q k. search (rules, tests)) (λ x q k. search (rules, tests))))

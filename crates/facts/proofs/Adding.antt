@@ -1,11 +1,11 @@
 -- One fact more: an arc stored before the facts of a buffer makes it the first of them. Assumes nothing.
 use Prim.Native.Nat.{ℕ, ◌+◌, ◌-◌, ◌≤◌}
 use mathlib.Core.Path.{◌≡◌, ◌∙◌}
-use mathlib.Core.Bool.{Bool}
 use mathlib.Core.List.{List, ◌∷◌, map}
 use native.Mathlib.Omega.{arith}
 use lib.ListN.{length, set, length-set, take, drop, length-drop}
 use lib.Seq.{take_all}
+use Rattle.std.proofs.Common.{Option}
 use Rattle.lent.proofs.Writing.{put-before}
 use Rattle.problem.specs.Arcs.{Net, arc, Arc}
 use Rattle.problem.proofs.Knowing.{known_more}
@@ -21,5 +21,5 @@ module _ (l : List ℕ) (a j k : ℕ) (p : 1 ≤ a) (h : a ≤ length l) (m : le
   pub within-stored : (g : Net) (n : ℕ) → Within g (drop a l) n → Arc g n j → Within g (take k (drop (a - 1) (set l (a - 1) j))) n
   within-stored g n w b = rw stored-first (record { known = known_more g n j (drop a l) b w.known; few = w.few })
 
-  pub tests-stored : (g : Net) (n : ℕ) (ok : Bool) (times : List ℕ) → Tests (map (arc g) (take k (drop (a - 1) (set l (a - 1) j)))) n ok times → Tests (arc g j ∷ map (arc g) (drop a l)) n ok times
-  tests-stored g n ok times t = rw stored-first at t
+  pub tests-stored : (g : Net) (n : ℕ) (answer : Option (List ℕ)) → Tests (map (arc g) (take k (drop (a - 1) (set l (a - 1) j)))) n answer → Tests (arc g j ∷ map (arc g) (drop a l)) n answer
+  tests-stored g n answer t = rw stored-first at t

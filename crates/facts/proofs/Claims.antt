@@ -2,12 +2,13 @@
 -- Assumes nothing.
 use Prim.Native.Nat.{ℕ, zero, suc, ◌-◌, ◌≤◌, ◌<◌}
 use mathlib.Core.Path.{◌≡◌, refl, sym, ap, ◌∙◌, subst}
-use mathlib.Core.Bool.{Bool, true}
+use mathlib.Core.Bool.{false≢true}
 use mathlib.Core.List.{List, [], ◌∷◌, map}
 use native.Mathlib.Omega.{arith}
 use lib.Dec.{T}
 use lib.IntN.{ℤ, nat_abs}
 use lib.ListN.{length, take}
+use Rattle.std.proofs.Common.{Option, Some, None, is_some, option_map}
 use Rattle.meaning.specs.Problem.{Alternative, Timetable, satisfied, Satisfies, Sound}
 use Rattle.meaning.specs.Plain.{Latest}
 use Rattle.meaning.specs.Decision.{sound, least, time_of, latest_of}
@@ -21,8 +22,11 @@ use Rattle.facts.proofs.Tables.{left_out}
 use Rattle.facts.proofs.Joining.{each-fact, fact-each, within_in}
 
 -- the answer and the timetable are determined
-pub test-one : (fs : List Alternative) (n : ℕ) (a b : Bool) (s t : List ℕ) → Tests fs n a s → Tests fs n b t → (a ≡ b) × (a ≡ true → take n s ≡ take n t)
-test-one fs n a b s t x y = let e : a ≡ b = x.decides ∙ sym y.decides in (e, λ h. x.latest h ∙ sym (y.latest (sym e ∙ h)))
+pub test-one : (fs : List Alternative) (n : ℕ) (r q : Option (List ℕ)) → Tests fs n r → Tests fs n q → option_map (take n) r ≡ option_map (take n) q
+test-one fs n (Some s) (Some t) x y = ap Some (x.latest ∙ sym y.latest)
+test-one fs n (Some s) None x y = absurd (false≢true (y.decides ∙ sym x.decides))
+test-one fs n None (Some t) x y = absurd (false≢true (x.decides ∙ sym y.decides))
+test-one fs n None None x y = refl
 
 -- what lies under every timetable of the facts lies under every one of theirs with one fact more: a test of these may start there
 pub one_more : (g : Net) (L : List ℕ) (j : ℕ) (s : List ℕ) → Under g L s → Under g (j ∷ L) s
@@ -52,10 +56,15 @@ module _ (n : ℕ) (fs gs : List Alternative) (f : (t : Timetable) → Satisfies
       ∙ ap (map nat_abs) (latest-one n fs (latest_of n fs) (latest_of n gs) (latest-is n fs i (t, h)) (same-latest (latest_of n gs) (latest-is n gs j (t, f t h))))
       ∙ minutes (least n gs)
 
-  same_tests : Each (In n) fs → Each (In n) gs → (a b : Bool) (s t : List ℕ) → Tests fs n a s → Tests gs n b t → (a ≡ b) × (a ≡ true → take n s ≡ take n t)
-  same_tests i j a b s t x y =
-      let e : a ≡ b = x.decides ∙ sound-same sound sound-decides fs gs f g ∙ sym y.decides in
-      (e, λ h. x.latest h ∙ same-least i j (sound-decides.right fs (subst T (sym (sym x.decides ∙ h)) tt)) ∙ sym (y.latest (sym e ∙ h)))
+  decided : Each (In n) fs → Each (In n) gs → (r q : Option (List ℕ)) → Tests fs n r → Tests gs n q → is_some r ≡ is_some q
+  decided i j r q x y = x.decides ∙ sound-same sound sound-decides fs gs f g ∙ sym y.decides
+
+  same_tests : Each (In n) fs → Each (In n) gs → (r q : Option (List ℕ)) → Tests fs n r → Tests gs n q → option_map (take n) r ≡ option_map (take n) q
+  same_tests i j (Some s) (Some t) x y =
+      ap Some (x.latest ∙ same-least i j (sound-decides.right fs (subst T x.decides tt)) ∙ sym y.latest)
+  same_tests i j (Some s) None x y = absurd (false≢true (sym (decided i j _ _ x y)))
+  same_tests i j None (Some t) x y = absurd (false≢true (decided i j _ _ x y))
+  same_tests i j None None x y = refl
 
 -- ---- the same facts in any order, any number of times
 more-facts : (g : Net) (L M : List ℕ) → ((j : ℕ) → IsFact M j → IsFact L j) → (t : Timetable) → Satisfies t (map (arc g) L) → Satisfies t (map (arc g) M)
@@ -66,6 +75,6 @@ more-facts g L M h t s =
     subst (λ (j : ℕ). T (satisfied t (arc g j))) k.same (fact-each g (λ a. T (satisfied t a)) L (satisfies-each t (map (arc g) L) s) k.place k.below)))
 
 -- the order of the facts does not matter
-pub order-free : (g : Net) (L M : List ℕ) (n : ℕ) → Within g L n → Within g M n → ((j : ℕ) → IsFact L j → IsFact M j) → ((j : ℕ) → IsFact M j → IsFact L j) → (a b : Bool) (s t : List ℕ) → Tests (map (arc g) L) n a s → Tests (map (arc g) M) n b t → (a ≡ b) × (a ≡ true → take n s ≡ take n t)
+pub order-free : (g : Net) (L M : List ℕ) (n : ℕ) → Within g L n → Within g M n → ((j : ℕ) → IsFact L j → IsFact M j) → ((j : ℕ) → IsFact M j → IsFact L j) → (r q : Option (List ℕ)) → Tests (map (arc g) L) n r → Tests (map (arc g) M) n q → option_map (take n) r ≡ option_map (take n) q
 order-free g L M n v w f h =
     same_tests n (map (arc g) L) (map (arc g) M) (more-facts g L M h) (more-facts g M L f) (within_in g L n v) (within_in g M n w)

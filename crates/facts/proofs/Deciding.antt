@@ -1,12 +1,12 @@
 -- The answer of a test from a start: times that the last round left as they are keep the facts, and where an event rose in it no timetable does.
 -- Assumes nothing.
 use Prim.Native.Nat.{ℕ, suc, ◌-◌, ◌≤◌}
-use mathlib.Core.Path.{◌≡◌, ap, ◌∙◌}
+use mathlib.Core.Path.{◌≡◌, refl, ap, ◌∙◌}
 use mathlib.Core.List.{List, []}
+use mathlib.Core.Bool.{true≢false}
 use native.Mathlib.Omega.{arith}
-use borrow.Author.Tests.{leb-true, leb-false}
-use lib.Dec.{leb}
 use lib.ListN.{length, get_or}
+use Rattle.std.proofs.Common.{Some, None}
 use Rattle.problem.specs.Arcs.{Net}
 use Rattle.facts.specs.Tests.{Within}
 use Rattle.facts.specs.Rounds.{Under, rows, Ended, Rising, TestsFrom}
@@ -35,12 +35,21 @@ module _ (g : Net) (L : List ℕ) (n : ℕ) (b : Within g L n) (p : 1 ≤ n) (z 
   final : get_or t k [] ≡ rows g L z (suc (n - 1))
   final = h.rounds.row k (omega arith) ∙ h.last ∙ ap (λ (i : ℕ). rows g L z i) (omega arith)
 
-  -- v is the first event that rose between them, or n
-  pub tests-from : (v : ℕ) → Rising n (get_or t (k - 1) []) (get_or t k []) v → TestsFrom g L z n (leb n v) (get_or t (k - 1) [])
-  tests-from v r =
+  -- no event rose between them, or one did
+  pub tests-from : Rising n (get_or t (k - 1) []) (get_or t k []) None → TestsFrom g L z n (Some (get_or t (k - 1) []))
+  tests-from r =
       record {
-        keeps = λ y. rw prev (still-holds g L n b z long (n - 1) (none-changed g L z n (n - 1) v _ _ prev final r b long (leb-true n v y)));
+        keeps = rw prev (still-holds g L n b z long (n - 1) (none-changed g L z n (n - 1) _ _ prev final None r refl b long));
         under = rw prev (rows_under g L n b z long u (n - 1));
         risen = λ m s e. rw prev (rows-bounded g L n b z long m s (n - 1) e);
-        unsound = λ y σ c. some-changed g L z n (n - 1) v _ _ prev final r (leb-false n v y) (sound-still g L n b p z long u σ c);
+        unsound = λ y. absurd (true≢false y);
+      }
+
+  pub none-from : (v : ℕ) → Rising n (get_or t (k - 1) []) (get_or t k []) (Some v) → TestsFrom g L z n None
+  none-from v r =
+      record {
+        keeps = tt;
+        under = tt;
+        risen = tt;
+        unsound = λ y σ c. some-changed g L z n (n - 1) _ _ prev final (Some v) r refl (sound-still g L n b p z long u σ c);
       }

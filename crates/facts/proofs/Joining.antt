@@ -2,12 +2,13 @@
 -- Assumes nothing.
 use Prim.Native.Nat.{ℕ, zero, suc, ◌≤◌, ◌<◌}
 use mathlib.Core.Path.{◌≡◌, refl, sym, ◌∙◌}
-use mathlib.Core.Bool.{Bool, true, false, false≢true}
+use mathlib.Core.Bool.{true, false}
 use mathlib.Core.List.{List, [], ◌∷◌, map}
 use native.Mathlib.Omega.{arith}
 use lib.IntN.{ℤ}
 use lib.ListN.{length, take, replicate, length-replicate, length-take}
 use lib.Seq.{ext_get_or, get_or-take}
+use Rattle.std.proofs.Common.{Option, Some, None, IfSome}
 use Rattle.laws.proofs.Differences.{Minus, below, above, minus}
 use Rattle.laws.proofs.Tests.{is_true, is_false}
 use Rattle.meaning.specs.Limits.{most_events}
@@ -16,7 +17,7 @@ use Rattle.meaning.specs.Decision.{ask, least, sound}
 use Rattle.meaning.proofs.Settling.{Each, In, Meets, zero-at, rounds-length, least_under, sound-right, sound-whole}
 use Rattle.meaning.proofs.Deciding.{day, day-satisfies, sound-decides, least-met}
 use Rattle.problem.specs.Arcs.{Net, head, tail, bound, bias, at, arc}
-use Rattle.facts.specs.Tests.{farthest, Within, Tests}
+use Rattle.facts.specs.Tests.{Within, Tests}
 use Rattle.facts.specs.Rounds.{Kept, Holds, Under, TestsFrom}
 
 -- ---- times that keep arcs
@@ -94,23 +95,15 @@ module _ (g : Net) (L : List ℕ) (n : ℕ) (w : Within g L n) where
       h (at (least n (map (arc g) L))) (meets-holds g L (at (least n (map (arc g) L))) met))
 
 -- ---- the answer of a test from the extra source is the meaning's
-module _ (g : Net) (L : List ℕ) (n : ℕ) (w : Within g L n) (some : 1 ≤ n) (most : n ≤ most_events) (times : List ℕ) (long : length times ≡ most_events) where
-  small_times : (ok : Bool) → TestsFrom g L (replicate most_events 0) n ok times → (e : ℕ) → at times e ≤ farthest
-  small_times ok v e = omega (arith, v.risen 0 (λ u. omega (arith, zero-at most_events u)) e)
-
-  pub joined : (ok : Bool) → TestsFrom g L (replicate most_events 0) n ok times → Tests (map (arc g) L) n ok times
-  joined true v =
-      record {
-        decides = sym (holds-sound g L n w (λ u. at times u) (v.keeps refl));
-        latest = λ _. holds-least g L n w times (omega arith) (v.keeps refl) v.under;
-        small = small_times true v;
-      }
-  joined false v =
-      record {
-        decides = sym (none-unsound g L n w (v.unsound refl));
-        latest = λ y. absurd (false≢true y);
-        small = small_times false v;
-      }
+pub joined : (g : Net) (L : List ℕ) (n : ℕ) → Within g L n → 1 ≤ n → n ≤ most_events → (answer : Option (List ℕ)) → IfSome answer (λ times. length times ≡ most_events) → TestsFrom g L (replicate most_events 0) n answer → Tests (map (arc g) L) n answer
+joined g L n w some most (Some times) long v =
+    record {
+      decides = sym (holds-sound g L n w (λ u. at times u) v.keeps);
+      latest = holds-least g L n w times (omega arith) v.keeps v.under;
+      small = λ e. omega (arith, v.risen 0 (λ u. omega (arith, zero-at most_events u)) e);
+    }
+joined g L n w some most None long v =
+    record { decides = sym (none-unsound g L n w (v.unsound refl)); latest = tt; small = tt }
 
 -- nothing lies below the extra source's start
 pub zeros-under : (g : Net) (L : List ℕ) (w : ℕ) → Under g L (replicate w 0)

@@ -2,21 +2,32 @@
 use Prim.Native.Nat.{ℕ, suc, ◌+◌, ◌*◌, ◌-◌, ◌≤◌, ◌<◌, max}
 use mathlib.Core.Path.{◌≡◌, refl, sym, ap, ◌∙◌}
 use mathlib.Core.List.{List, []}
+use mathlib.Core.Bool.{Bool, true, false, cond, false≢true}
 use native.Mathlib.Omega.{arith}
 use native.Mathlib.Numerals.{add-one}
 use native.Mathlib.Decide.{dec_le}
 use lib.ListN.{length, get_or, set}
 use lib.Seq.{get_or-set_same, get_or-set_other}
 use borrow.Author.Count.{below_more}
-use Rattle.problem.specs.Arcs.{bias, at, Net, head, tail, bound}
+use Rattle.std.proofs.Common.{Option, Some, None, IsSome, IsNone}
+use Rattle.problem.specs.declared.Edge.{Edge}
+use Rattle.problem.specs.Arcs.{bias, at, Net, net, no_edge, head, tail, bound}
+use Rattle.problem.proofs.Knowing.{head-is, tail-is, bound-is}
 use Rattle.facts.specs.Tests.{Within}
-use Rattle.facts.specs.Rounds.{relax, upto, round, rows, Rounds, Moving, Ended, Stays, Rising}
+use Rattle.facts.specs.Rounds.{turned, aimed, relax, upto, round, rows, Rounds, Moving, Ended, Stays, Rising}
 use Rattle.facts.proofs.Rounding.{rows-bounded, rows-mono, same_after, none-rose}
 
 -- a turn of a round's loop
 pub upto-more : (g : Net) (L s nxt : List ℕ) (i j x y r : ℕ) → nxt ≡ upto g L s i → j ≡ at L i → x ≡ head g j → y ≡ tail g j → r ≡ max (at nxt x) (at s y + bias - bound g j) → set nxt x r ≡ upto g L s (i + 1)
 unfolding upto relax
 upto-more g L s nxt i j x y r a b c d e = rw (add-one i) (cc)
+
+-- the same by the arc as it is kept, or turned round
+pub upto-kept : (turn : Bool) (l : List Edge) (L s nxt : List ℕ) (i j x y r : ℕ) → nxt ≡ upto (aimed turn (net l)) L s i → j ≡ at L i → x ≡ cond turn (get_or l j no_edge).y (get_or l j no_edge).x → y ≡ cond turn (get_or l j no_edge).x (get_or l j no_edge).y → r ≡ max (at nxt x) (at s y + bias - (get_or l j no_edge).b) → set nxt x r ≡ upto (aimed turn (net l)) L s (i + 1)
+upto-kept true l L s nxt i j x y r a b c d e =
+    upto-more (turned (net l)) L s nxt i j x y r a b (c ∙ sym (tail-is l j)) (d ∙ sym (head-is l j)) (rw (← bound-is l j) at e)
+upto-kept false l L s nxt i j x y r a b c d e =
+    upto-more (net l) L s nxt i j x y r a b (c ∙ sym (head-is l j)) (d ∙ sym (tail-is l j)) (rw (← bound-is l j) at e)
 
 module _ (g : Net) (L z : List ℕ) (t : List (List ℕ)) where
   pub rounds-first : get_or t 0 [] ≡ z → (k : ℕ) → k ≤ 0 → Rounds g L z k t
@@ -69,12 +80,13 @@ pub moving-more : (g : Net) (L z : List ℕ) (k : ℕ) → Moving g L z k → (r
 moving-more g L z k m h = record { each = below_more _ _ m.each h }
 
 -- whether round k + 1 changed a time, by the first of n events that rose in it
-module _ (g : Net) (L z : List ℕ) (n k v : ℕ) (s r : List ℕ) (p : s ≡ rows g L z k) (q : r ≡ rows g L z (suc k)) (h : Rising n s r v) where
-  pub some-changed : v < n → rows g L z (suc k) ≡ rows g L z k → ⊥
-  some-changed l e = omega (arith, h.rises l, ap (λ (t : List ℕ). at t v) (p ∙ sym e ∙ sym q))
+module _ (g : Net) (L z : List ℕ) (n k : ℕ) (s r : List ℕ) (p : s ≡ rows g L z k) (q : r ≡ rows g L z (suc k)) where
+  pub some-changed : (first : Option ℕ) → Rising n s r first → IsSome first → rows g L z (suc k) ≡ rows g L z k → ⊥
+  some-changed (Some v) h _ e = omega (arith, h.rises.1, ap (λ (t : List ℕ). at t v) (p ∙ sym e ∙ sym q))
+  some-changed None h f e = false≢true f
 
-  pub none-changed : Within g L n → n ≤ length z → n ≤ v → rows g L z (suc k) ≡ rows g L z k
-  none-changed b long l = none-rose g L n b z long k (λ u m. rw (p, q) at (h.none (omega (arith, h.most)) u m))
+  pub none-changed : (first : Option ℕ) → Rising n s r first → IsNone first → Within g L n → n ≤ length z → rows g L z (suc k) ≡ rows g L z k
+  none-changed first h f b long = none-rose g L n b z long k (λ u m. rw (p, q) at (h.none f u m))
 
 -- where some of n rounds were left out, the last that was made changed no time: no round lowers one, and the times before round n are those before it
 pub left_out : (g : Net) (L : List ℕ) (n : ℕ) → Within g L n → (z : List ℕ) → n ≤ length z → (k : ℕ) (t : List (List ℕ)) → Ended g L z n k t → k < n → rows g L z (suc (k - 1)) ≡ rows g L z (k - 1)

@@ -1,6 +1,6 @@
 -- The rounds that test a set of facts, from any start that lies under every timetable of theirs: in a round each fact raises the time of its head, going by the times before the round (001). And the answer of a test by them.
 -- Times are minutes before closing. Definitions only.
-use Rattle.std.specs.Prelude.{◌≡◌, Bool, true, false, List, [], ℕ, zero, suc, ◌+◌, ◌*◌, ◌-◌, ◌≤◌, ◌<◌, max, length, get_or, set}
+use Rattle.std.specs.Prelude.{◌≡◌, Bool, true, false, Option, IsNone, IfSome, List, [], ℕ, zero, suc, ◌+◌, ◌*◌, ◌-◌, ◌≤◌, ◌<◌, max, length, get_or, set}
 use Rattle.meaning.specs.Limits.{most_events}
 use Rattle.problem.specs.Arcs.{Net, head, tail, bound, bias, at}
 use Rattle.facts.specs.Tests.{farthest}
@@ -16,6 +16,15 @@ pub record Holds (g : Net) (L : List ℕ) (s : ℕ → ℕ) : Type 0 where
 -- no timetable that keeps the facts has an event nearer to closing than z has it
 pub record Under (g : Net) (L z : List ℕ) : Type 0 where
   pub under : (t : ℕ → ℕ) → Holds g L t → (v : ℕ) → at z v ≤ t v
+
+-- the net with each arc turned round
+abbrev pub turned : Net → Net
+turned g = record { xs = g.ys; ys = g.xs; bs = g.bs }
+
+-- the net as it is, or turned round
+abbrev pub aimed : Bool → Net → Net
+aimed true g = turned g
+aimed false g = g
 
 -- one fact used in a round: the earlier times s raise the time of its head
 unfoldable pub relax : Net → List ℕ → ℕ → List ℕ → List ℕ
@@ -59,11 +68,10 @@ pub record Ended (g : Net) (L z : List ℕ) (n k : ℕ) (t : List (List ℕ)) : 
 pub record Stays (k : ℕ) (s t : List (List ℕ)) : Type 0 where
   pub same : (i : ℕ) → k < i → get_or t i [] ≡ get_or s i []
 
--- the first of w events that is nearer to closing in s than in r, or w
-pub record Rising (w : ℕ) (s r : List ℕ) (v : ℕ) : Type 0 where
-  pub most : v ≤ w
-  pub rises : v < w → at s v < at r v
-  pub none : v ≡ w → (u : ℕ) → u < w → at r u ≤ at s u
+-- the first of w events that is nearer to closing in s than in r, if there is one
+pub record Rising (w : ℕ) (s r : List ℕ) (first : Option ℕ) : Type 0 where
+  pub rises : IfSome first (λ v. (v < w) × (at s v < at r v))
+  pub none : IsNone first → (u : ℕ) → u < w → at r u ≤ at s u
 
 -- arc j raises v from the times s to the times r
 pub record Raises (g : Net) (s r : List ℕ) (v j : ℕ) : Type 0 where
@@ -79,9 +87,9 @@ pub record RaisedBy (g : Net) (L s r : List ℕ) (v i : ℕ) : Type 0 where
 abbrev pub Raised : Net → List ℕ → List ℕ → List ℕ → ℕ → Type 0
 Raised g L s r v = (i : ℕ) × RaisedBy g L s r v i
 
--- the answer of a test from the times z: times that lie under every timetable of the facts and keep them, or no timetable does
-pub record TestsFrom (g : Net) (L z : List ℕ) (n : ℕ) (ok : Bool) (times : List ℕ) : Type 0 where
-  pub keeps : ok ≡ true → Holds g L (λ v. at times v)
-  pub under : Under g L times
-  pub risen : (m : ℕ) → ((v : ℕ) → at z v ≤ m) → (v : ℕ) → at times v ≤ m + (n - 1) * bias
-  pub unsound : ok ≡ false → (t : ℕ → ℕ) → Holds g L t → ⊥
+-- the answer of a test from the times z: times that lie under every timetable of the facts and keep them, or none if no timetable does
+pub record TestsFrom (g : Net) (L z : List ℕ) (n : ℕ) (answer : Option (List ℕ)) : Type 0 where
+  pub keeps : IfSome answer (λ times. Holds g L (λ v. at times v))
+  pub under : IfSome answer (λ times. Under g L times)
+  pub risen : IfSome answer (λ times. (m : ℕ) → ((v : ℕ) → at z v ≤ m) → (v : ℕ) → at times v ≤ m + (n - 1) * bias)
+  pub unsound : IsNone answer → (t : ℕ → ℕ) → Holds g L t → ⊥

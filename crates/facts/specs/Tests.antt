@@ -1,6 +1,6 @@
 -- What the test of a set of facts asks and says: 01, "a standing is sound if some timetable satisfies its facts", and "its latest timetable".
 -- The facts are arc numbers, the times minutes before closing. Definitions only.
-use Rattle.std.specs.Prelude.{◌≡◌, Bool, true, List, ℕ, ◌*◌, ◌≤◌, ◌<◌, length, take}
+use Rattle.std.specs.Prelude.{◌≡◌, Option, is_some, IfSome, List, ℕ, ◌*◌, ◌≤◌, ◌<◌, length, take}
 use Rattle.meaning.specs.Limits.{most_alternatives}
 use Rattle.meaning.specs.Problem.{Alternative}
 use Rattle.meaning.specs.Decision.{sound, least}
@@ -18,8 +18,8 @@ pub record IsFact (L : List ℕ) (j : ℕ) : Type 0 where
   pub below : place < length L
   pub same : at L place ≡ j
 
--- the answer of a test of the facts fs over n events: whether they are sound, and if so the latest timetable
-pub record Tests (fs : List Alternative) (n : ℕ) (ok : Bool) (times : List ℕ) : Type 0 where
-  pub decides : ok ≡ sound fs
-  pub latest : ok ≡ true → take n times ≡ least n fs
-  pub small : (e : ℕ) → at times e ≤ farthest
+-- the answer of a test of the facts fs over n events: the latest timetable if they are sound, else none
+pub record Tests (fs : List Alternative) (n : ℕ) (answer : Option (List ℕ)) : Type 0 where
+  pub decides : is_some answer ≡ sound fs
+  pub latest : IfSome answer (λ times. take n times ≡ least n fs)
+  pub small : IfSome answer (λ times. (e : ℕ) → at times e ≤ farthest)

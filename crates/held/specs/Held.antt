@@ -4,7 +4,7 @@ use Rattle.meaning.specs.Problem.{Alternative}
 use Rattle.problem.specs.declared.Problem.{Problem}
 use Rattle.problem.specs.Arcs.{arc}
 use Rattle.problem.specs.Laid.{arcs}
-use Rattle.facts.specs.Tests.{Within, places}
+use Rattle.facts.specs.Tests.{Within}
 use Rattle.held.specs.declared.Facts.{Facts}
 
 -- the numbers that a buffer holds
@@ -18,5 +18,4 @@ facts_in p f = map (arc (arcs p)) (held f)
 -- the numbers are arcs of the problem, and a place is left for one more
 pub record Ready (p : Problem) (f : Facts) : Type 0 where
   pub free : 1 ≤ f.at
-  pub fits : f.at ≤ places
   pub within : Within (arcs p) (held f) p.n

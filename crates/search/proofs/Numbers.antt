@@ -13,7 +13,7 @@ use Rattle.meaning.specs.Plain.{nowhere, chosen}
 use Rattle.meaning.specs.Search.{Standing, taking, facts}
 use Rattle.problem.specs.declared.Problem.{Problem}
 use Rattle.problem.specs.Arcs.{Net, at, arc, arcs_from, Known}
-use Rattle.problem.specs.Laid.{arcs, size_of, clauses_from, Laid}
+use Rattle.problem.specs.Laid.{arcs, size_of, clauses_from}
 use Rattle.problem.proofs.Laying.{arcs-length, position-below, clause-ends, clause-last}
 use Rattle.problem.proofs.Knowing.{known-none, known_more}
 use Rattle.search.specs.Standing.{takes, standing_facts, chosen_facts, Inside}
@@ -62,16 +62,16 @@ inside-standing p (i ∷ picks) (suc k) c m h (suc d) l = (
 )
 
 -- ---- what the loops count by
-module _ {p : Problem} (laid : Laid p) where
+module _ (p : Problem) where
   -- clause d ends where the next one begins
   pub clause-next : (d : ℕ) → d < p.m → at p.starts (d + 1) ≡ at p.starts d + size_of p d
-  clause-next d h = ap (at p.starts) (add-one d) ∙ clause-last p laid d h
+  clause-next d h = ap (at p.starts) (add-one d) ∙ clause-last p d h
 
-  -- there is a pick for each of the first k positions
-  pub picks-enough : {picks : List ℕ} {k : ℕ} → Inside p picks k → length picks ≡ 32 → k ≤ length picks
-  picks-enough inside long = omega (arith, laid.few, inside.few)
+-- there is a pick for each of the first k positions
+pub picks-enough : {p : Problem} {picks : List ℕ} {k : ℕ} → Inside p picks k → length picks ≡ 32 → k ≤ length picks
+picks-enough {p} inside long = omega (arith, p.laid.few, inside.few)
 
-module _ (p : Problem) (laid : Laid p) where
+module _ (p : Problem) where
   -- position i of the clause of s arcs from j on
   takes-taking : (j s i : ℕ) (L : List ℕ) → j + s ≤ at p.starts p.m → i < s → map (arc (arcs p)) (takes j i L) ≡ taking i (arcs_from (arcs p) j s) (map (arc (arcs p)) L)
   unfolding takes arcs_from
@@ -79,7 +79,7 @@ module _ (p : Problem) (laid : Laid p) where
   takes-taking j (suc s) zero L h l = refl
   takes-taking j (suc s) (suc i) L h l =
       takes-taking (suc j) s i ((opposite_from + j) ∷ L) (omega arith) (le_of_suc-le-suc l)
-      ∙ ap (λ (a : Alternative). taking i (arcs_from (arcs p) (suc j) s) (a ∷ map (arc (arcs p)) L)) (sym (laid.opposites j (omega arith)))
+      ∙ ap (λ (a : Alternative). taking i (arcs_from (arcs p) (suc j) s) (a ∷ map (arc (arcs p)) L)) (sym (p.laid.opposites j (omega arith)))
 
   -- the facts of a standing
   pub standing-facts : (k c : ℕ) (q L : List ℕ) → k + c ≤ p.m → Standing (clauses_from p k c) q → map (arc (arcs p)) (standing_facts p.starts k q L) ≡ facts (clauses_from p k c) q (map (arc (arcs p)) L)
@@ -89,14 +89,14 @@ module _ (p : Problem) (laid : Laid p) where
   standing-facts k zero (i ∷ q) L h s = absurd s
   standing-facts k (suc c) (i ∷ q) L h s =
       standing-facts (suc k) c q (takes (at p.starts k) i L) (omega arith) s.1
-      ∙ ap (facts (clauses_from p (suc k) c) q) (takes-taking (at p.starts k) (size_of p k) i L (clause-ends p laid k (omega arith)) (rw (arcs-length (arcs p) (at p.starts k) (size_of p k)) at s.0))
+      ∙ ap (facts (clauses_from p (suc k) c) q) (takes-taking (at p.starts k) (size_of p k) i L (clause-ends p k (omega arith)) (rw (arcs-length (arcs p) (at p.starts k) (size_of p k)) at s.0))
 
   -- ---- each number is an arc
   takes-known : (j i : ℕ) (L : List ℕ) → j + i < at p.starts p.m → Known (arcs p) p.n L → Known (arcs p) p.n (takes j i L)
   unfolding takes
-  takes-known j zero L l h = known_more (arcs p) p.n j L (laid.alternative j (omega arith)) h
+  takes-known j zero L l h = known_more (arcs p) p.n j L (p.laid.alternative j (omega arith)) h
   takes-known j (suc i) L l h =
-      takes-known (suc j) i ((opposite_from + j) ∷ L) (omega arith) (known_more (arcs p) p.n (opposite_from + j) L (laid.turned j (omega arith)) h)
+      takes-known (suc j) i ((opposite_from + j) ∷ L) (omega arith) (known_more (arcs p) p.n (opposite_from + j) L (p.laid.turned j (omega arith)) h)
 
   pub standing-known : (k c : ℕ) (q L : List ℕ) → k + c ≤ p.m → Standing (clauses_from p k c) q → Known (arcs p) p.n L → Known (arcs p) p.n (standing_facts p.starts k q L)
   unfolding standing_facts clauses_from
@@ -105,7 +105,7 @@ module _ (p : Problem) (laid : Laid p) where
   standing-known k zero (i ∷ q) L h s a = absurd s
   standing-known k (suc c) (i ∷ q) L h s a =
       standing-known (suc k) c q (takes (at p.starts k) i L) (omega arith) s.1
-      (takes-known (at p.starts k) i L (position-below p laid k (omega arith) i (rw (arcs-length (arcs p) (at p.starts k) (size_of p k)) at s.0)) a)
+      (takes-known (at p.starts k) i L (position-below p k (omega arith) i (rw (arcs-length (arcs p) (at p.starts k) (size_of p k)) at s.0)) a)
 
 -- ---- the numbers of a selection
 pub chosen-front : (starts picks : List ℕ) (m i : ℕ) → i < m → m ≤ length picks → chosen_facts starts i (drop i (take m picks)) ≡ (at starts i + at picks i) ∷ chosen_facts starts (i + 1) (drop (i + 1) (take m picks))
@@ -124,7 +124,7 @@ arcs-at g j zero i l = absurd (not-suc-le-zero l)
 arcs-at g j (suc s) zero l = ap (arc g) (let e : j ≡ j + 0 = omega arith in e)
 arcs-at g j (suc s) (suc i) l = arcs-at g (suc j) s i (le_of_suc-le-suc l) ∙ ap (arc g) (let e : suc j + i ≡ j + suc i = omega arith in e)
 
-module _ (p : Problem) (laid : Laid p) where
+module _ (p : Problem) where
   pub chosen-facts : (k c : ℕ) (q : List ℕ) → k + c ≤ p.m → Standing (clauses_from p k c) q → map (arc (arcs p)) (chosen_facts p.starts k q) ≡ chosen (clauses_from p k c) q
   unfolding chosen_facts clauses_from
   chosen-facts k zero [] h s = refl
@@ -142,5 +142,5 @@ module _ (p : Problem) (laid : Laid p) where
   chosen-known k zero (i ∷ q) h s = absurd s
   chosen-known k (suc c) (i ∷ q) h s =
       known_more (arcs p) p.n (at p.starts k + i) (chosen_facts p.starts (suc k) q)
-      (laid.alternative (at p.starts k + i) (position-below p laid k (omega arith) i (rw (arcs-length (arcs p) (at p.starts k) (size_of p k)) at s.0)))
+      (p.laid.alternative (at p.starts k + i) (position-below p k (omega arith) i (rw (arcs-length (arcs p) (at p.starts k) (size_of p k)) at s.0)))
       (chosen-known (suc k) c q (omega arith) s.1)

@@ -21,7 +21,7 @@ use Rattle.meaning.proofs.Rows.{Short}
 use Rattle.meaning.proofs.First.{rank-none}
 use Rattle.problem.specs.declared.Problem.{Problem}
 use Rattle.problem.specs.Arcs.{at}
-use Rattle.problem.specs.Laid.{arcs, size_of, clauses_from, clauses_in, Laid}
+use Rattle.problem.specs.Laid.{arcs, size_of, clauses_from, clauses_in}
 use Rattle.problem.proofs.Laying.{arcs-length, clauses-length, clause-of, clause-last, size-most}
 use Rattle.search.specs.Standing.{Inside}
 use Rattle.search.specs.Places.{open_at}
@@ -50,7 +50,7 @@ next_last (c ∷ cs) (j ∷ q) i b l e =
     deeper true = unfold sideways in refl
     deeper false = refl
 
-module _ (p : Problem) (laid : Laid p) (picks : List ℕ) (k i : ℕ) (inside : Inside p picks k) (l : i < k) (long : k ≤ length picks) where
+module _ (p : Problem) (picks : List ℕ) (k i : ℕ) (inside : Inside p picks k) (l : i < k) (long : k ≤ length picks) where
   size-at : length (get_or (clauses_in p) (length (take i picks)) []) ≡ size_of p i
   size-at =
       ap (λ (d : ℕ). length (get_or (clauses_in p) d [])) (let e : length (take i picks) ≡ i = omega (arith, length-take i picks) in e)
@@ -102,23 +102,23 @@ module _ (p : Problem) (laid : Laid p) (picks : List ℕ) (k i : ℕ) (inside : 
               rw (get_or-set_other picks i j (at picks i + 1) 0 (λ e. let q : j < i = n in omega arith)) (inside.each j (omega arith))
 
 -- ---- ranks and products by suffixes of the clauses
-module _ (p : Problem) (laid : Laid p) where
+module _ (p : Problem) where
   pub laid-short : (k c : ℕ) → k + c ≤ p.m → Short (clauses_from p k c)
   unfolding clauses_from
   laid-short k zero h = tt
   laid-short k (suc c) h =
-      (omega (arith, arcs-length (arcs p) (at p.starts k) (size_of p k), size-most p laid k (omega arith)), laid-short (suc k) c (omega arith))
+      (omega (arith, arcs-length (arcs p) (at p.starts k) (size_of p k), size-most p k (omega arith)), laid-short (suc k) c (omega arith))
 
   laid-sizes : (k c : ℕ) → k + c ≤ p.m → sizes (clauses_from p k c) + at p.starts k ≡ at p.starts (k + c)
   unfolding clauses_from sizes
   laid-sizes k zero h = omega (arith, ap (at p.starts) (let e : k ≡ k + 0 = omega arith in e))
   laid-sizes k (suc c) h =
-      omega (arith, arcs-length (arcs p) (at p.starts k) (size_of p k), clause-last p laid k (omega arith), laid-sizes (suc k) c (omega arith), ap (at p.starts) (let e : suc k + c ≡ k + suc c = omega arith in e))
+      omega (arith, arcs-length (arcs p) (at p.starts k) (size_of p k), clause-last p k (omega arith), laid-sizes (suc k) c (omega arith), ap (at p.starts) (let e : suc k + c ≡ k + suc c = omega arith in e))
 
   pub product_small : (k : ℕ) → k ≤ p.m → product (clauses_from p k (p.m - k)) ≤ 2 ^ 63
   product_small k h =
       product-fits (clauses_from p k (p.m - k)) (laid-short k (p.m - k) (omega arith))
-      (omega (arith, laid-sizes k (p.m - k) (omega arith), laid.last, laid.ends (k + (p.m - k)) (omega arith)))
+      (omega (arith, laid-sizes k (p.m - k) (omega arith), p.laid.last, p.laid.ends (k + (p.m - k)) (omega arith)))
 
   -- a clause more in front
   product-front : (i : ℕ) → i < p.m → product (clauses_from p i (p.m - i)) ≡ size_of p i * product (clauses_from p (i + 1) (p.m - (i + 1)))
@@ -144,18 +144,18 @@ module _ (p : Problem) (laid : Laid p) where
           (λ j b. rw (get_or-drop i picks j 0) (inside.each (i + j) (omega arith))) (p.m - i) (omega (arith, inside.few)))
 
 -- one clause further to the front, as the loops go
-module _ (p : Problem) (laid : Laid p) (i all : ℕ) (some : 0 < i) (most : i ≤ p.m) (is : all ≡ product (clauses_from p i (p.m - i))) where
+module _ (p : Problem) (i all : ℕ) (some : 0 < i) (most : i ≤ p.m) (is : all ≡ product (clauses_from p i (p.m - i))) where
   whole : i - 1 + 1 ≡ i
   whole = omega arith
 
   pub product-grown : (size : ℕ) → size ≡ size_of p (i - 1) → size * all ≡ product (clauses_from p (i - 1) (p.m - (i - 1)))
   product-grown size e =
-      sym (product-front p laid (i - 1) (omega arith)
+      sym (product-front p (i - 1) (omega arith)
       ∙ ap₂ ◌*◌ (sym e) (ap (λ (d : ℕ). product (clauses_from p d (p.m - d))) whole ∙ sym is))
 
   pub rank-grown : (picks : List ℕ) (k pick before : ℕ) → i ≤ k → k ≤ length picks → pick ≡ at picks (i - 1) → before ≡ rank (clauses_from p i (p.m - i)) (drop i (take k picks)) → pick * all + before ≡ rank (clauses_from p (i - 1) (p.m - (i - 1))) (drop (i - 1) (take k picks))
   rank-grown picks k pick before l long e f =
-      sym (rank-front p laid picks k (i - 1) (omega arith) long (omega arith)
+      sym (rank-front p picks k (i - 1) (omega arith) long (omega arith)
       ∙ ap₂ ◌+◌ (ap₂ ◌*◌ (sym e) (ap (λ (d : ℕ). product (clauses_from p d (p.m - d))) whole ∙ sym is)) (ap (λ (d : ℕ). rank (clauses_from p d (p.m - d)) (drop d (take k picks))) whole ∙ sym f))
 
 -- no position left

@@ -1,5 +1,5 @@
 -- The facts of a standing as arc numbers, newest first, and its dead clauses. Definitions only.
-use Rattle.std.specs.Prelude.{◌≡◌, List, [], ◌∷◌, ℕ, zero, suc, ◌+◌, ◌-◌, ◌<◌, ◌≤◌}
+use Rattle.std.specs.Prelude.{◌≡◌, Option, IsNone, IfSome, List, [], ◌∷◌, ℕ, zero, suc, ◌+◌, ◌-◌, ◌<◌, ◌≤◌}
 use Rattle.std.proofs.Math.Option.{some, none}
 use Rattle.meaning.specs.Limits.{opposite_from}
 use Rattle.meaning.specs.Decision.{sound}
@@ -30,9 +30,7 @@ pub record Inside (p : Problem) (picks : List ℕ) (k : ℕ) : Type 0 where
   pub few : k ≤ p.m
   pub each : (i : ℕ) → i < k → at picks i < size_of p i
 
--- clause d is the lowest dead one from clause k on; or d is m, and none is
-pub record DeadFrom (p : Problem) (f : Facts) (k d : ℕ) : Type 0 where
-  pub from : k ≤ d
-  pub most : d ≤ p.m
-  pub some-dead : d < p.m → first_dead sound (facts_in p f) (clauses_from p k (p.m - k)) ≡ some (d - k)
-  pub none-dead : d ≡ p.m → first_dead sound (facts_in p f) (clauses_from p k (p.m - k)) ≡ none
+-- clause d is the lowest dead one from clause k on; or none is
+pub record DeadFrom (p : Problem) (f : Facts) (k : ℕ) (lowest : Option ℕ) : Type 0 where
+  pub some-dead : IfSome lowest (λ d. (k ≤ d) × (d < p.m) × (first_dead sound (facts_in p f) (clauses_from p k (p.m - k)) ≡ some (d - k)))
+  pub none-dead : IsNone lowest → first_dead sound (facts_in p f) (clauses_from p k (p.m - k)) ≡ none

@@ -1,5 +1,6 @@
 -- The search as a step over a place, and what a step and a run say. Definitions only.
-use Rattle.std.specs.Prelude.{◌≡◌, Bool, true, false, List, [], ℕ, ◌+◌, ◌-◌, ◌*◌, ◌<◌, ◌≤◌, length, take}
+use Rattle.std.specs.Prelude.{◌≡◌, true, List, [], ℕ, ◌+◌, ◌-◌, ◌*◌, ◌<◌, ◌≤◌, length, take}
+use Rattle.std.proofs.Common.{ControlFlow, Continue, Break}
 use Rattle.std.proofs.Math.Option.{some, none}
 use Rattle.meaning.specs.Limits.{most_allowance}
 use Rattle.meaning.specs.Decision.{sound}
@@ -9,16 +10,15 @@ use Rattle.problem.specs.Laid.{clauses_in}
 use Rattle.held.specs.declared.Facts.{Facts}
 use Rattle.held.specs.Held.{facts_in}
 use Rattle.search.specs.declared.Place.{Place}
-use Rattle.search.specs.declared.Turn.{Turn}
-use Rattle.search.specs.declared.Turn.TheVariants.{On, Plan, Closed, Stop}
-use Rattle.search.specs.declared.Went.{Went}
+use Rattle.search.specs.declared.End.{End}
+use Rattle.search.specs.declared.End.TheVariants.{Plan, Closed, Stop}
 use Rattle.search.specs.Standing.{Inside}
 use Rattle.search.specs.Places.{open_at}
 use Rattle.search.specs.Listing.{Kept}
 
 -- the standing at a place
 abbrev pub positions : Place → List ℕ
-positions s = take s.k s.picks
+positions s = take s.standing.k s.standing.picks
 
 -- no more steps than this are left, with the allowance a
 abbrev pub effort : Problem → ℕ → Place → ℕ
@@ -30,7 +30,7 @@ most_rows = 5 * most_allowance + 1
 
 -- a place that a search with the allowance a may come to
 pub record Fine (p : Problem) (a : ℕ) (s : Place) : Type 0 where
-  pub inside : Inside p s.picks s.k
+  pub inside : Inside p s.standing.picks s.standing.k
   pub spent : s.visits ≤ a
   pub few : s.rows + effort p a s ≤ most_rows
 
@@ -47,8 +47,8 @@ pub record Found (p : Problem) (a : ℕ) (o : Outcome) (s : Place) : Type 0 wher
   pub before : ℕ
   pub is : o ≡ found (positions s) before (a - s.visits)
   pub spent : s.visits ≤ a
-  pub inside : Inside p s.picks s.k
-  pub whole : s.k ≡ p.m
+  pub inside : Inside p s.standing.picks s.standing.k
+  pub whole : s.standing.k ≡ p.m
 
 -- it ended without one, and the rows are kept
 pub record Ended (p : Problem) (a : ℕ) (o : Outcome) (s : Place) (reasons : List ℕ) : Type 0 where
@@ -65,7 +65,7 @@ pub record Stopped (p : Problem) (a : ℕ) (o : Outcome) (s : Place) : Type 0 wh
   pub rows : List Row
   pub is : o ≡ stopped before rows (positions s)
   pub spent : s.visits ≡ a
-  pub inside : Inside p s.picks s.k
+  pub inside : Inside p s.standing.picks s.standing.k
 
 -- it goes on from a place that a search may come to, with less left to do
 pub record Goes (p : Problem) (a : ℕ) (o : Outcome) (less : ℕ) (s : Place) (reasons : List ℕ) : Type 0 where
@@ -73,50 +73,40 @@ pub record Goes (p : Problem) (a : ℕ) (o : Outcome) (less : ℕ) (s : Place) (
   pub here : At p a o s reasons
   pub nearer : effort p a s < less
 
+-- how a search ends
+abbrev pub Ends : Problem → ℕ → Outcome → End → List ℕ → Type 0
+Ends p a o (Plan s) reasons = Found p a o s
+Ends p a o (Closed s) reasons = Ended p a o s reasons
+Ends p a o (Stop s) reasons = Stopped p a o s
+
 -- what a step's answer means, where there was so much left to do before it
-abbrev pub Means : Problem → ℕ → Outcome → ℕ → Turn → Place → List ℕ → Type 0
-Means p a o less On s reasons = Goes p a o less s reasons
-Means p a o less Plan s reasons = Found p a o s
-Means p a o less Closed s reasons = Ended p a o s reasons
-Means p a o less Stop s reasons = Stopped p a o s
+abbrev pub Means : Problem → ℕ → Outcome → ℕ → ControlFlow End Place → List ℕ → Type 0
+Means p a o less (Continue s) reasons = Goes p a o less s reasons
+Means p a o less (Break e) reasons = Ends p a o e reasons
 
 -- a step from the place s
-pub record Steps (p : Problem) (a : ℕ) (s : Place) (before : List ℕ) (w : Went) (after : List ℕ) : Type 0 where
+pub record Steps (p : Problem) (a : ℕ) (s : Place) (before : List ℕ) (w : ControlFlow End Place) (after : List ℕ) : Type 0 where
   pub sized : length after ≡ length before
-  pub means : (o : Outcome) → At p a o s before → Means p a o (effort p a s) w.turn w.place after
+  pub means : (o : Outcome) → At p a o s before → Means p a o (effort p a s) w after
 
--- the place after the standing of s is closed, if there is one
-abbrev pub Next : Problem → Place → Turn → Place → Type 0
-Next p s On t = (next (clauses_in p) (positions s) ≡ some (positions t)) × Inside p t.picks t.k × (open_at (clauses_in p) (positions t) < open_at (clauses_in p) (positions s))
-Next p s Plan t = ⊥
-Next p s Closed t = next (clauses_in p) (positions s) ≡ none
-Next p s Stop t = ⊥
+-- t has the visits and the rows of s
+pub record Counts (s t : Place) : Type 0 where
+  pub visits : t.visits ≡ s.visits
+  pub rows : t.rows ≡ s.rows
 
-pub record Leaves (p : Problem) (s : Place) (w : Went) : Type 0 where
-  pub after : Next p s w.turn w.place
-  pub visits : w.place.visits ≡ s.visits
-  pub rows : w.place.rows ≡ s.rows
+-- the place after the standing of s is closed, if there is one; else all is closed
+abbrev pub Leaves : Problem → Place → ControlFlow End Place → Type 0
+Leaves p s (Continue t) = Counts s t × (next (clauses_in p) (positions s) ≡ some (positions t)) × Inside p t.standing.picks t.standing.k × (open_at (clauses_in p) (positions t) < open_at (clauses_in p) (positions s))
+Leaves p s (Break (Plan t)) = ⊥
+Leaves p s (Break (Closed t)) = Counts s t × (next (clauses_in p) (positions s) ≡ none)
+Leaves p s (Break (Stop t)) = ⊥
 
 -- a visit of the standing of s, whose facts f are sound
-pub record Visits (p : Problem) (f : Facts) (s : Place) (before : List ℕ) (w : Went) (after : List ℕ) : Type 0 where
+pub record Visits (p : Problem) (f : Facts) (s : Place) (before : List ℕ) (w : ControlFlow End Place) (after : List ℕ) : Type 0 where
   pub sized : length after ≡ length before
-  pub means : (a : ℕ) (o : Outcome) → Fine p a s → s.visits < a → facts_in p f ≡ facts (clauses_in p) (positions s) [] → sound (facts_in p f) ≡ true → At p a o s before → Means p a o (effort p a s) w.turn w.place after
-
--- how a run ends
-abbrev pub Ends : Problem → ℕ → Outcome → Turn → Place → List ℕ → Type 0
-Ends p a o On s reasons = ⊥
-Ends p a o Plan s reasons = Found p a o s
-Ends p a o Closed s reasons = Ended p a o s reasons
-Ends p a o Stop s reasons = Stopped p a o s
+  pub means : (a : ℕ) (o : Outcome) → Fine p a s → s.visits < a → facts_in p f ≡ facts (clauses_in p) (positions s) [] → sound (facts_in p f) ≡ true → At p a o s before → Means p a o (effort p a s) w after
 
 -- a run of the whole search, with the allowance a
-pub record Runs (p : Problem) (a : ℕ) (before : List ℕ) (w : Went) (after : List ℕ) : Type 0 where
+pub record Runs (p : Problem) (a : ℕ) (before : List ℕ) (e : End) (after : List ℕ) : Type 0 where
   pub sized : length after ≡ length before
-  pub ends : Ends p a (search sound (clauses_in p) 0 [] a) w.turn w.place after
-
--- whether a turn goes on
-abbrev pub is_on : Turn → Bool
-is_on On = true
-is_on Plan = false
-is_on Closed = false
-is_on Stop = false
+  pub ends : Ends p a (search sound (clauses_in p) 0 [] a) e after

@@ -3,53 +3,44 @@
 
 mod listing;
 mod places;
-mod standing;
+mod taken;
 
 ghost use Rattle.std.specs.Prelude.{◌≡◌, ◌+◌, ◌<◌, ◌≤◌, length, replicate};
 ghost use Rattle.meaning.specs.Limits.{most_allowance, blank_byte};
-ghost use Rattle.problem.specs.Laid.{Laid};
 ghost use Rattle.held.specs.Held.{Ready};
 ghost use Rattle.search.specs.Standing.{Inside};
-ghost use Rattle.search.specs.Steps.{most_rows, Leaves, Fine, Visits, Steps, Runs, is_on};
+ghost use Rattle.search.specs.Steps.{most_rows, Leaves, Fine, Visits, Steps, Runs};
 
 use held::Facts;
 use listing::{mark_row, put_cycles, put_reason, put_row};
 use places::advance;
 pub use places::{rank_of, under};
-use problem::Problem;
-pub use standing::chosen_of;
-use standing::{facts_of, first_dead};
+use problem::{CLAUSES, Problem};
+use std::ops::ControlFlow;
+pub use taken::chosen_of;
+use taken::{facts_of, first_dead};
 
-// Whether there is a standing after one that is closed, and its picks.
+// A standing: its positions are the first k picks.
 #[derive(Clone, Copy)]
-pub struct Advanced {
-    pub on: bool,
-    pub picks: [u8; 32],
+pub struct Standing {
+    pub picks: [u8; CLAUSES],
     pub k: usize,
 }
 
 // A place of the search: the standing to come to next, the visits made, and the rows so far.
 #[derive(Clone, Copy)]
 pub struct Place {
-    pub picks: [u8; 32],
-    pub k: usize,
+    pub standing: Standing,
     pub visits: u64,
     pub rows: usize,
 }
 
-// How a step ends: the search goes on, a plan is found, all is closed, or the allowance is spent.
+// How the search ends: a plan is found, all is closed, or the allowance is spent.
 #[derive(Clone, Copy)]
-pub enum Turn {
-    On,
-    Plan,
-    Closed,
-    Stop,
-}
-
-#[derive(Clone, Copy)]
-pub struct Went {
-    pub turn: Turn,
-    pub place: Place,
+pub enum End {
+    Plan(Place),
+    Closed(Place),
+    Stop(Place),
 }
 
 // The first byte of a mark row: the search goes on to the next clause, or a clause is dead.
@@ -58,140 +49,77 @@ const ONWARD: u8 = 240;
 const DEAD: u8 = 200;
 
 // The place after the standing of s is closed.
-fn leave(p: Problem, s: Place) -> Went
-    requires { Laid p × Inside p s.picks s.k }
+fn leave(p: Problem, s: Place) -> ControlFlow<End, Place>
+    requires { Inside p s.standing.picks s.standing.k }
     ensures { Leaves p s result }
 {
-    let picks = s.picks;
-    let a = advance(p, picks, s.k);
-    let out = a.picks;
-    let place = Place {
-        picks: out,
-        k: a.k,
-        visits: s.visits,
-        rows: s.rows,
-    };
-    if a.on {
-        Went {
-            turn: Turn::On,
-            place,
-        }
-    } else {
-        Went {
-            turn: Turn::Closed,
-            place,
-        }
+    match advance(p, s.standing) {
+        Some(standing) => ControlFlow::Continue(Place { standing, ..s }),
+        None => ControlFlow::Break(End::Closed(s)),
     }
 }
 
 // A visit of a sound standing short of the last clause: closed by its lowest dead clause, or left for position 0 of the next clause.
-fn visit(p: Problem, f: Facts, s: Place, reasons: &mut [u8]) -> Went
-    requires { Laid p × Ready p f × Inside p s.picks s.k × (s.k < p.m) × (s.rows + 5 ≤ most_rows) × (s.visits ≤ most_allowance) }
+fn visit(p: Problem, f: Facts, s: Place, reasons: &mut [u8]) -> ControlFlow<End, Place>
+    requires { Ready p f × Inside p s.standing.picks s.standing.k × (s.standing.k < p.m) × (s.rows + 5 ≤ most_rows) × (s.visits ≤ most_allowance) }
     ensures { Visits p f s reasons.old result reasons.new }
 {
-    let picks = s.picks;
-    let k = s.k;
-    let d = first_dead(p, f, k);
-    if d < p.m {
-        let mark = mark_row(DEAD + d as u8);
-        put_row(reasons, s.rows, mark);
+    let visits = s.visits + 1;
+    if let Some(d) = first_dead(p, f, s.standing.k) {
+        put_row(reasons, s.rows, mark_row(DEAD + d as u8));
         let rows = put_cycles(p, f, d, reasons, s.rows + 1);
-        return leave(
-            p,
-            Place {
-                picks,
-                k,
-                visits: s.visits + 1,
-                rows,
-            },
-        );
+        return leave(p, Place { visits, rows, ..s });
     }
-    let mark = mark_row(ONWARD);
-    put_row(reasons, s.rows, mark);
-    let mut next = picks;
-    next[k] = 0;
-    Went {
-        turn: Turn::On,
-        place: Place {
-            picks: next,
-            k: k + 1,
-            visits: s.visits + 1,
-            rows: s.rows + 1,
-        },
-    }
+    put_row(reasons, s.rows, mark_row(ONWARD));
+    let mut standing = s.standing;
+    standing.picks[standing.k] = 0;
+    standing.k += 1;
+    let rows = s.rows + 1;
+    ControlFlow::Continue(Place {
+        standing,
+        visits,
+        rows,
+    })
 }
 
 // One step of the search: the standing of s is closed, visited, found whole, or stopped at.
-pub fn step(p: Problem, allowance: u64, s: Place, reasons: &mut [u8]) -> Went
-    requires { Laid p × Fine p allowance s × (allowance ≤ most_allowance) }
+pub fn step(p: Problem, allowance: u64, s: Place, reasons: &mut [u8]) -> ControlFlow<End, Place>
+    requires { Fine p allowance s × (allowance ≤ most_allowance) }
     ensures { Steps p allowance s reasons.old result reasons.new }
 {
-    let picks = s.picks;
-    let k = s.k;
-    let f = facts_of(p, picks, k);
-    let t = held::tested(p, f);
-    if !t.ok {
+    let f = facts_of(p, s.standing);
+    if f.tested(p).is_none() {
         put_reason(p, f, reasons, s.rows);
-        return leave(
-            p,
-            Place {
-                picks,
-                k,
-                visits: s.visits,
-                rows: s.rows + 1,
-            },
-        );
+        let rows = s.rows + 1;
+        return leave(p, Place { rows, ..s });
     }
     if allowance <= s.visits {
-        return Went {
-            turn: Turn::Stop,
-            place: s,
-        };
+        return ControlFlow::Break(End::Stop(s));
     }
-    if k == p.m {
-        return Went {
-            turn: Turn::Plan,
-            place: Place {
-                picks,
-                k,
-                visits: s.visits + 1,
-                rows: s.rows,
-            },
-        };
+    if s.standing.k == p.m {
+        let visits = s.visits + 1;
+        return ControlFlow::Break(End::Plan(Place { visits, ..s }));
     }
     visit(p, f, s, reasons)
 }
 
-// Whether the search goes on.
-fn goes_on(turn: Turn) -> bool
-    ensures { result ≡ is_on turn }
-{
-    match turn {
-        Turn::On => true,
-        Turn::Plan => false,
-        Turn::Closed => false,
-        Turn::Stop => false,
-    }
-}
-
 // The whole search: steps from the start until it ends.
-pub fn run(p: Problem, allowance: u64, reasons: &mut [u8]) -> Went
-    requires { Laid p × (allowance ≤ most_allowance) × (reasons.old ≡ replicate (length reasons.old) blank_byte) }
+pub fn run(p: Problem, allowance: u64, reasons: &mut [u8]) -> End
+    requires { (allowance ≤ most_allowance) × (reasons.old ≡ replicate (length reasons.old) blank_byte) }
     ensures { Runs p allowance reasons.old result reasons.new }
 {
     let mut s = Place {
-        picks: [0; 32],
-        k: 0,
+        standing: Standing {
+            picks: [0; CLAUSES],
+            k: 0,
+        },
         visits: 0,
         rows: 0,
     };
     loop {
-        let w = step(p, allowance, s, reasons);
-        let turn = w.turn;
-        if !goes_on(turn) {
-            return w;
+        match step(p, allowance, s, reasons) {
+            ControlFlow::Continue(t) => s = t,
+            ControlFlow::Break(end) => return end,
         }
-        let t = w.place;
-        s = t;
     }
 }

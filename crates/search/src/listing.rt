@@ -5,8 +5,8 @@ ghost use Rattle.meaning.specs.Decision.{sound};
 ghost use Rattle.meaning.specs.Search.{dead, cycle};
 ghost use Rattle.meaning.specs.Reasons.{mark_row};
 ghost use Rattle.meaning.specs.Listing.{row_of};
-ghost use Rattle.problem.specs.Laid.{Laid, arcs, size_of, clause_of};
-ghost use Rattle.facts.specs.Tests.{places, Within};
+ghost use Rattle.problem.specs.Laid.{arcs, size_of, clause_of};
+ghost use Rattle.facts.specs.Tests.{Within};
 ghost use Rattle.held.specs.Held.{held, facts_in, Ready};
 ghost use Rattle.search.specs.Listing.{put_row, Keeps};
 ghost use Rattle.search.specs.Steps.{most_rows};
@@ -33,35 +33,29 @@ pub fn put_row(reasons: &mut [u8], rows: usize, row: [u8; ROW])
 {
     let from = rows * ROW;
     if from + ROW <= reasons.len() {
-        lent::put_bytes(reasons, from, &row);
+        reasons[from..from + ROW].copy_from_slice(&row);
     }
 }
 
 // Row number `rows` of the list, where there is room for it: the shortest reason of the facts f, which is worked out only there.
 pub fn put_reason(p: Problem, f: Facts, reasons: &mut [u8], rows: usize)
-    requires { Laid p × (f.at ≤ places) × Within (arcs p) (held f) p.n × (sound (facts_in p f) ≡ false) × (rows ≤ most_rows) }
+    requires { Within (arcs p) (held f) p.n × (sound (facts_in p f) ≡ false) × (rows ≤ most_rows) }
     ensures { reasons.new ≡ put_row reasons.old rows (row_of row_bytes (cycle (facts_in p f))) }
 {
     if rows * ROW + ROW <= reasons.len() {
-        let row = held::reason(p, f);
-        put_row(reasons, rows, row);
+        put_row(reasons, rows, f.reason(p));
     }
 }
 
 // The cycle rows of the dead clause d, from row number `rows` on; the number of the row after them.
 pub fn put_cycles(p: Problem, f: Facts, d: usize, reasons: &mut [u8], rows: usize) -> usize
-    requires { Laid p × Ready p f × (d < p.m) × (dead sound (facts_in p f) (clause_of p d) ≡ true) × (rows + 4 ≤ most_rows) }
+    requires { Ready p f × (d < p.m) × (dead sound (facts_in p f) (clause_of p d) ≡ true) × (rows + 4 ≤ most_rows) }
     ensures { Keeps reasons.old reasons.new rows (map (λ a. cycle (a ∷ facts_in p f)) (clause_of p d)) × (result ≡ rows + size_of p d) }
 {
-    let starts = p.starts;
-    let end = starts[d + 1];
-    let mut j = starts[d];
-    let mut k = rows;
-    while j < end {
-        let g = held::put(f, j);
-        put_reason(p, g, reasons, k);
-        k += 1;
-        j += 1;
+    let first = p.starts[d];
+    let end = p.starts[d + 1];
+    for j in first..end {
+        put_reason(p, f.put(j), reasons, rows + usize::from(j - first));
     }
-    k
+    rows + usize::from(end - first)
 }

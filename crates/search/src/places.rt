@@ -1,81 +1,58 @@
 // The standing after one that is closed, and the ranks of standings.
 ghost use Rattle.std.specs.Prelude.{◌≡◌, ◌-◌, ◌<◌, ◌≤◌, take};
 ghost use Rattle.meaning.specs.Plain.{product, rank};
-ghost use Rattle.problem.specs.Laid.{Laid, size_of, clauses_from, clauses_in};
+ghost use Rattle.problem.specs.Laid.{size_of, clauses_from, clauses_in};
 ghost use Rattle.search.specs.Standing.{Inside};
 ghost use Rattle.search.specs.Places.{Advances};
 
-use crate::Advanced;
+use crate::Standing;
 use problem::Problem;
 
-// The standing after that of the first k picks and all under it.
-pub fn advance(p: Problem, picks: [u8; 32], k: usize) -> Advanced
-    requires { Laid p × Inside p picks k }
-    ensures { Advances p picks k result }
+// The standing after s and all under it, if there is one.
+pub fn advance(p: Problem, s: Standing) -> Option<Standing>
+    requires { Inside p s.picks s.k }
+    ensures { Advances p s result }
 {
-    let mut i = k;
-    while 0 < i {
-        i -= 1;
-        let starts = p.starts;
-        let next = picks[i] + 1;
-        if next < starts[i + 1] - starts[i] {
-            let mut out = picks;
-            out[i] = next;
-            return Advanced {
-                on: true,
-                picks: out,
-                k: i + 1,
-            };
+    for i in (0..s.k).rev() {
+        let next = s.picks[i] + 1;
+        if next < p.starts[i + 1] - p.starts[i] {
+            let mut picks = s.picks;
+            picks[i] = next;
+            return Some(Standing { picks, k: i + 1 });
         }
     }
-    Advanced {
-        on: false,
-        picks,
-        k: 0,
-    }
-}
-
-// A byte as a count.
-fn wide(x: u8) -> u64
-    ensures { result ≡ x }
-{
-    x as u64
+    None
 }
 
 // How many alternatives clause k has.
 fn size(p: Problem, k: usize) -> u64
-    requires { Laid p × (k < p.m) }
+    requires { k < p.m }
     ensures { result ≡ size_of p k }
 {
-    let starts = p.starts;
-    wide(starts[k + 1] - starts[k])
+    u64::from(p.starts[k + 1] - p.starts[k])
 }
 
 // How many selections the clauses from k on have.
 pub fn under(p: Problem, k: usize) -> u64
-    requires { Laid p × (k ≤ p.m) }
+    requires { k ≤ p.m }
     ensures { result ≡ product (clauses_from p k (p.m - k)) }
 {
     let mut all = 1u64;
-    let mut i = p.m;
-    while k < i {
-        i -= 1;
+    for i in (k..p.m).rev() {
         all = size(p, i) * all;
     }
     all
 }
 
-// The rank of the standing of the first k picks.
-pub fn rank_of(p: Problem, picks: [u8; 32], k: usize) -> u64
-    requires { Laid p × Inside p picks k }
-    ensures { result ≡ rank (clauses_in p) (take k picks) }
+// The rank of a standing.
+pub fn rank_of(p: Problem, s: Standing) -> u64
+    requires { Inside p s.picks s.k }
+    ensures { result ≡ rank (clauses_in p) (take s.k s.picks) }
 {
-    let mut all = under(p, k);
+    let mut all = under(p, s.k);
     let mut before = 0u64;
-    let mut i = k;
-    while 0 < i {
-        i -= 1;
-        before = wide(picks[i]) * all + before;
+    for i in (0..s.k).rev() {
+        before = u64::from(s.picks[i]) * all + before;
         all = size(p, i) * all;
     }
     before

@@ -7,6 +7,7 @@ use Prim.Native.Nat.{ℕ, suc, ◌+◌, ◌*◌, ◌-◌, ◌≤◌, ◌<◌}
 use native.Mathlib.Omega.{arith}
 use native.Mathlib.Decide.{ℕ_discrete}
 use lib.ListN.{length, length-append}
+use Rattle.std.proofs.Common.{Option, Some, None, IsSome}
 use Rattle.meaning.specs.Limits.{most_events, most_alternatives}
 use Rattle.meaning.specs.Plain.{◌≺◌}
 use Rattle.meaning.proofs.Dictionary.{before-none, before-one-more}
@@ -95,11 +96,14 @@ module _ (g : Net) (L : List ℕ) (w : Within (turned g) L most_events) (t : ℕ
                     };
               }
 
-      module _ (j : ℕ) (k : Picks g L (rows (turned g) L (start t) r) u need j) where
+      -- so there is a smallest
+      pub some-picked : (pick : Option ℕ) → Picks g L (rows (turned g) L (start t) r) u need pick → IsSome pick
+      some-picked (Some j) k = refl
+      some-picked None k = let (i, f) = some_fits in absurd (k.least i f)
+
+      module _ (j : ℕ) (k : Picks g L (rows (turned g) L (start t) r) u need (Some j)) where
         pub picked : Fits g L (rows (turned g) L (start t) r) u need j
-        picked =
-            let (i, f) = some_fits in
-            k.some (omega (arith, k.least i f, fact_small (turned g) L most_events i w f.fact))
+        picked = k.some
 
         -- what is needed after j
         pub need-more : bias ≤ need + bound g j

@@ -8,6 +8,8 @@ use native.Mathlib.Omega.{arith}
 use lib.Dec.{T}
 use lib.ListN.{length}
 use Rattle.laws.proofs.Integers.{sub-law}
+use Rattle.std.specs.Option.{IsSomeAnd}
+use Rattle.std.proofs.Common.{Option, Some, None}
 use Rattle.meaning.specs.Limits.{row_bytes}
 use Rattle.meaning.specs.Problem.{Alternative}
 use Rattle.meaning.specs.Decision.{sound}
@@ -21,6 +23,7 @@ use Rattle.meaning.proofs.Reasoning.{shortest-is, shortest-one, shortest-few}
 use Rattle.problem.specs.Arcs.{Net, head, tail, bound, bias, arc}
 use Rattle.facts.specs.Tests.{Within, IsFact}
 use Rattle.facts.proofs.Joining.{each-fact, fact-each, within_in}
+use Rattle.shortest.specs.declared.Found.{Found}
 use Rattle.shortest.specs.Paths.{Path, sum, From}
 use Rattle.shortest.specs.Best.{RowBelow, Best}
 
@@ -75,24 +78,27 @@ module _ (g : Net) (L : List ℕ) where
         go : Path g L v (j ∷ l) v → v < n
         go (i, e, p) = omega (arith, e, ap (λ (x : ℕ). tail g x) i.same, (w.known.each i.place i.below).in_tail)
 
-    module _ (size : ℕ) (row : List ℕ) (b : Best g L n n size row) where
+    module _ (best : Found) (r : RowBelow g L n best) where
       -- so no closed walk has fewer arcs than the best row
-      none-fewer : (l : List ℕ) → T (loops (map (arc g) L) l) → size ≤ length l
-      none-fewer l t = let (v, f) = loops-from l t in b.none v (from-event v l f) l f
+      none-fewer : (l : List ℕ) → T (loops (map (arc g) L) l) → best.size ≤ length l
+      none-fewer l t = let (v, f) = loops-from l t in r.fewest v (from-event v l f) l f
 
-      best-shortest : (r : RowBelow g L n size row) → Shortest (map (arc g) L) r.list
-      best-shortest r =
+      best-shortest : Shortest (map (arc g) L) r.list
+      best-shortest =
           record {
             closed = from-loops r.event r.list r.closed;
             fewest = λ l t. omega (arith, none-fewer l t, r.long);
             first = λ l t e. let (v, f) = loops-from l t in r.first v (from-event v l f) l f (e ∙ r.long);
           }
 
-      -- facts with no timetable have a shortest reason, of at most n numbers; so the best row is there, it is a shortest reason too, and there is only one
-      pub best-names : sound (map (arc g) L) ≡ false → row ≡ row_of row_bytes (cycle (map (arc g) L))
-      unfolding row_of
-      best-names e =
-          let is = shortest-is (arc g) (map (arc g) L) arcs-numbered e in
-          let few = shortest-few (arc g) (map (arc g) L) arcs-numbered e n (within_in g L n w) in
-          let r = b.some (omega (arith, none-fewer (shortest (map (arc g) L)) is.closed)) in
-          r.bytes ∙ ap (padded row_bytes) (shortest-one (arc g) (map (arc g) L) arcs-numbered e r.list (best-shortest r))
+    -- facts with no timetable have a shortest reason, of at most n numbers; so the best row is there, it is a shortest reason too, and there is only one
+    pub best-names : (best : Option Found) → Best g L n n best → sound (map (arc g) L) ≡ false → IsSomeAnd best (λ b. b.row ≡ row_of row_bytes (cycle (map (arc g) L)))
+    unfolding row_of
+    best-names (Some best) b e =
+        let r = b.some.1 in
+        r.bytes ∙ ap (padded row_bytes) (shortest-one (arc g) (map (arc g) L) arcs-numbered e r.list (best-shortest best r))
+    best-names None b e =
+        let is = shortest-is (arc g) (map (arc g) L) arcs-numbered e in
+        let few = shortest-few (arc g) (map (arc g) L) arcs-numbered e n (within_in g L n w) in
+        let (v, f) = loops-from (shortest (map (arc g) L)) is.closed in
+        omega (arith, b.none refl v (from-event v _ f) _ f)

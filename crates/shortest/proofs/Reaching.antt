@@ -5,11 +5,12 @@ use mathlib.Core.List.{List, [], ◌∷◌, ◌++◌}
 use Prim.Native.Nat.{ℕ, zero, suc, ◌+◌, ◌*◌, ◌≤◌, ◌<◌}
 use native.Mathlib.Omega.{arith}
 use native.Mathlib.Decide.{dec_lt, ℕ_discrete}
-use lib.ListN.{length, replicate, length-set, length-replicate}
+use lib.ListN.{length, replicate, length-set, length-replicate, length-map}
 use lib.Seq.{get_or-set_same, get_or-set_other}
 use Rattle.meaning.specs.Limits.{most_events, most_alternatives}
 use Rattle.meaning.proofs.Settling.{zero-at}
-use Rattle.problem.specs.Arcs.{Net, head, tail, bound, bias, at}
+use Rattle.problem.specs.declared.Edge.{Edge}
+use Rattle.problem.specs.Arcs.{Net, net, head, tail, bound, bias, at}
 use Rattle.facts.specs.Tests.{Within, IsFact}
 use Rattle.facts.specs.Rounds.{rows, RaisedBy}
 use Rattle.facts.proofs.Rounding.{rows-mono, rows_grow, rows-cover, rows-bounded, rose}
@@ -42,6 +43,10 @@ turned-within g L n w few =
           };
       few = few;
     }
+
+-- so are the arcs of a slice
+pub kept-within : (l : List Edge) (L : List ℕ) (n : ℕ) → Within (net l) L n → Within (turned (net l)) L n
+kept-within l L n w = turned-within (net l) L n w (omega (arith, length-map l (λ (e : Edge). e.x), length-map l (λ (e : Edge). e.y), w.few))
 
 -- ---- the start
 pub start-long : (t : ℕ) → length (start t) ≡ most_events

@@ -1,18 +1,20 @@
 -- The rounds to a target, up to the first after which it stands above its start: how many facts a closed row from it has at the least. Assumes nothing.
-use mathlib.Core.Path.{◌≡◌, sym, ap, ◌∙◌}
+use mathlib.Core.Path.{◌≡◌, refl, sym, ap, ◌∙◌}
 use mathlib.Core.List.{List, []}
 use Prim.Native.Nat.{ℕ, ◌+◌, ◌≤◌, ◌<◌}
+use mathlib.Core.Bool.{true≢false}
 use native.Mathlib.Omega.{arith}
 use native.Mathlib.Numerals.{add-one}
 use native.Mathlib.Decide.{dec_lt}
 use lib.ListN.{length, get_or}
+use Rattle.std.proofs.Common.{Some, None}
 use Rattle.meaning.specs.Limits.{most_events}
 use Rattle.problem.specs.Arcs.{Net, at}
 use Rattle.facts.specs.Tests.{Within}
 use Rattle.facts.specs.Rounds.{ceiling, round, rows, Rounds}
 use Rattle.facts.proofs.Tables.{next-round}
 use Rattle.shortest.specs.Paths.{From}
-use Rattle.shortest.specs.Heights.{turned, highest, peak, start, height, Closes}
+use Rattle.shortest.specs.Heights.{turned, highest, peak, start, height, Lifts, Closes}
 use Rattle.shortest.proofs.Reaching.{height-bounded, target-height, none-higher}
 
 -- ---- a turn of the rounds' loop
@@ -30,19 +32,26 @@ pub start-below : (g : Net) (L : List ℕ) (t : ℕ) → t < most_events → (k 
 start-below g L t b k l = let e : k ≡ 0 = omega arith in rw e (omega (arith, target-height g L t b))
 
 -- ---- what the rounds tell
-module _ (g : Net) (L : List ℕ) (t most r : ℕ) (tab : List (List ℕ)) (w : Within (turned g) L most_events) (b : t < most_events) (c : Closes g L t most r tab) where
-  -- a closed row of fewer facts would lift the target above its start by then
+-- a closed row of fewer facts would lift the target above its start by then
+fewest_below : (g : Net) (L : List ℕ) (t r : ℕ) → Within (turned g) L most_events → t < most_events → ((k : ℕ) → k < r → height g L t k t ≤ highest) → (m : List ℕ) → From g L t m → r ≤ length m
+fewest_below g L t r w b h m f = go (dec_lt (length m) r)
+  where
+    go : Dec (length m < r) → r ≤ length m
+    go (yes l) = absurd (omega (arith, h (length m) l, none-higher g L w t b m (length m) t f.path (omega arith), f.negative))
+    go (no l) = omega (arith, l)
+
+module _ (g : Net) (L : List ℕ) (t r : ℕ) (tab : List (List ℕ)) (w : Within (turned g) L most_events) (b : t < most_events) (c : Lifts g L t r tab) where
   pub closes-fewest : (m : List ℕ) → From g L t m → r ≤ length m
-  closes-fewest m f = go (dec_lt (length m) r)
-    where
-      go : Dec (length m < r) → r ≤ length m
-      go (yes l) = absurd (omega (arith, c.below (length m) l, none-higher g L w t b m (length m) t f.path (omega arith), f.negative))
-      go (no l) = omega (arith, l)
+  closes-fewest = fewest_below g L t r w b c.below
 
   -- no row of the table passes the peak
-  pub closes-small : r ≤ most → r ≤ most_events → (k : ℕ) → k ≤ r → (v : ℕ) → at (get_or tab k []) v ≤ peak
-  closes-small l m k h v = rw ((c.rounds l).row k h) (omega (arith, height-bounded g L w t b k v))
+  pub closes-small : r ≤ most_events → (k : ℕ) → k ≤ r → (v : ℕ) → at (get_or tab k []) v ≤ peak
+  closes-small m k h v = rw (c.rounds.row k h) (omega (arith, height-bounded g L w t b k v))
+
+-- where none of `most` rounds lifts the target, each closed row has more facts
+pub closes-none : (g : Net) (L : List ℕ) (t most : ℕ) (tab : List (List ℕ)) → Within (turned g) L most_events → t < most_events → Closes g L t most None tab → (m : List ℕ) → From g L t m → most < length m
+closes-none g L t most tab w b c m f = omega (arith, fewest_below g L t (most + 1) w b (λ k h. c.none refl k (omega arith)) m f)
 
 -- rounds that were enough are as many as were asked
-pub closes-own : (g : Net) (L : List ℕ) (t most r : ℕ) (tab : List (List ℕ)) → Closes g L t most r tab → r ≤ most → Closes g L t r r tab
-closes-own g L t most r tab c l = record { within = omega arith; below = c.below; above = λ _. c.above l; rounds = λ _. c.rounds l }
+pub closes-own : (g : Net) (L : List ℕ) (t most r : ℕ) (tab : List (List ℕ)) → Closes g L t most (Some r) tab → Closes g L t r (Some r) tab
+closes-own g L t most r tab c = record { some = (omega arith, c.some.1); none = λ e. absurd (true≢false e) }

@@ -1,15 +1,11 @@
 -- What leads a row of facts on: an arc to an event that lies high enough, the smallest number of a fact that is one, and the row that such numbers make. Definitions only.
-use Rattle.std.specs.Prelude.{◌≡◌, Bool, true, false, List, ℕ, ◌+◌, ◌≤◌, ◌<◌, length}
-use Rattle.meaning.specs.Limits.{row_bytes, blank_byte}
+use Rattle.std.specs.Prelude.{◌≡◌, Option, IfSome, List, ℕ, ◌+◌, ◌≤◌, ◌<◌, length}
+use Rattle.std.specs.Option.{IsSomeAnd}
+use Rattle.meaning.specs.Limits.{row_bytes}
 use Rattle.meaning.specs.Listing.{padded}
 use Rattle.problem.specs.Arcs.{Net, head, tail, bound, bias, at}
 use Rattle.facts.specs.Tests.{IsFact}
 use Rattle.shortest.specs.Paths.{FirstFrom}
-
--- a test's answer says whether a statement holds
-pub record Says (P : Type 0) (b : Bool) : Type 0 where
-  pub yes : b ≡ true → P
-  pub no : b ≡ false → P → ⊥
 
 -- arc j leads on from u to an event of the heights s that lies higher than what is needed
 pub record Leads (g : Net) (s : List ℕ) (u need j : ℕ) : Type 0 where
@@ -21,10 +17,10 @@ pub record Fits (g : Net) (L s : List ℕ) (u need j : ℕ) : Type 0 where
   pub fact : IsFact L j
   pub leads : Leads g s u need j
 
--- the smallest number of such a fact, or 255
-pub record Picks (g : Net) (L s : List ℕ) (u need r : ℕ) : Type 0 where
-  pub some : r < blank_byte → Fits g L s u need r
-  pub least : (j : ℕ) → Fits g L s u need j → r ≤ j
+-- the smallest number of such a fact, if there is one
+pub record Picks (g : Net) (L s : List ℕ) (u need : ℕ) (pick : Option ℕ) : Type 0 where
+  pub some : IfSome pick (Fits g L s u need)
+  pub least : (j : ℕ) → Fits g L s u need j → IsSomeAnd pick (λ r. r ≤ j)
 
 -- the first row from t, of `size` numbers, then 255s
 pub record RowFrom (g : Net) (L : List ℕ) (t size : ℕ) (row : List ℕ) : Type 0 where

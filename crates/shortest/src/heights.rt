@@ -1,12 +1,12 @@
 // Heights by which rows of facts to a target are weighed: rounds over the arcs turned round, from a start where the target alone is high.
 ghost use Rattle.std.specs.Prelude.{◌≡◌, ◌+◌, ◌*◌, ◌≤◌, ◌<◌, length};
-ghost use Rattle.meaning.specs.Limits.{most_events, most_alternatives};
+ghost use Rattle.meaning.specs.Limits.{most_events};
 ghost use Rattle.problem.specs.Arcs.{net};
 ghost use Rattle.facts.specs.Tests.{Within};
 ghost use Rattle.shortest.specs.Heights.{start, Closes};
 
-use facts::rounds::{BIAS, round_of};
-use problem::EVENTS;
+use facts::rounds::round_of;
+use problem::{BIAS, EVENTS, Edge};
 
 // The height of the target: a bias for each arc of a row.
 pub const HIGHEST: u32 = EVENTS as u32 * BIAS;
@@ -21,29 +21,25 @@ fn start_at(t: usize) -> [u32; EVENTS]
     z
 }
 
-// The rounds to t in a lent table, row r with the heights after r of them, until t stands above its start or `most` are made; gives the round after which it does, or most + 1.
+// The rounds to t in a lent table, row r with the heights after r of them, until t stands above its start or `most` are made; gives the round after which it does.
 pub fn rounds_to(
-    xs: &[u8],
-    ys: &[u8],
-    bs: &[u32],
+    arcs: &[Edge],
     facts: &[u8],
     t: usize,
     most: usize,
     tab: &mut [[u32; EVENTS]],
-) -> usize
-    requires { Within (net xs.now ys.now bs.now) facts.now most_events × (length ys.now ≤ 2 * most_alternatives) × (t < most_events) × (most ≤ most_events) × (length tab.old ≡ most_events + 1) }
-    ensures { Closes (net xs.now ys.now bs.now) facts.now t most result tab.new }
+) -> Option<usize>
+    requires { Within (net arcs.now) facts.now most_events × (t < most_events) × (most ≤ most_events) × (length tab.old ≡ most_events + 1) }
+    ensures { Closes (net arcs.now) facts.now t most result tab.new }
 {
     tab[0] = start_at(t);
-    let mut r = 0;
-    while r < most {
+    for r in 0..most {
         let cur = tab[r];
-        let nxt = round_of(ys, xs, bs, facts, cur);
-        r += 1;
-        tab[r] = nxt;
+        let nxt = round_of::<true>(arcs, facts, cur);
+        tab[r + 1] = nxt;
         if HIGHEST < nxt[t] {
-            return r;
+            return Some(r + 1);
         }
     }
-    most + 1
+    None
 }

@@ -12,4 +12,4 @@ test_from-requires c =
 
 pub returns : goal.returns
 returns c =
-    joined _ _ c.args.n c.requires.0 c.requires.1 c.requires.2 c.test_from.result.times (search rules) _ c.test_from.ensures
+    joined _ _ c.args.n c.requires.0 c.requires.1 c.requires.2 c.test_from.result (search rules) c.test_from.ensures

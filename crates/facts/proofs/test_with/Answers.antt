@@ -14,4 +14,4 @@ test-requires c =
 pub returns : goal.returns
 returns c =
     let a = c.args in
-    tests-stored a.buffer a.at a.j (places - (a.at - 1)) c.requires.2 (omega arith) (omega arith) (net a.xs.now a.ys.now a.bs.now) a.n c.test.result.ok c.test.result.times c.test.ensures
+    tests-stored a.buffer a.at a.j (places - (a.at - 1)) c.requires.2 (omega arith) (omega arith) (net a.arcs.now) a.n c.test.result c.test.ensures

@@ -1,24 +1,22 @@
 -- `search::run` meets its contract: the whole search is what was closed so far, and the search from the place. Assumes nothing.
-use mathlib.Core.Path.{refl, sym, ◌∙◌}
+use mathlib.Core.Path.{refl, ◌∙◌}
 use Rattle.search.proofs.Visiting.{start_fine, start-here, run-goes, run_ends}
 use Rattle.search.proofs.run.Goals as goal
 
-pub loop-p-init : goal.loop-p-init
-loop-p-init c =
-    (start_fine c.args.p c.requires.0 c.args.allowance _ c.requires.1, start-here c.args.p c.requires.0 c.args.allowance _ c.args.reasons.now c.requires.2, refl)
+pub loop-t-init : goal.loop-t-init
+loop-t-init c =
+    record { fine = start_fine c.args.p c.args.allowance _ c.requires.0; here = start-here c.args.p c.args.allowance _ c.args.reasons.now c.requires.1; sized = refl }
 
-pub returns-then-not-goes_on : goal.returns-then-not-goes_on
-returns-then-not-goes_on c =
-    let l = c.loop-p in
-    run_ends _ _ _ _ _ _ _ l.invariant.1 l.invariant.2 c.step-w.ensures (sym c.goes_on.ensures ∙ c.if-not-goes_on.true)
+pub returns-in-Break : goal.returns-in-Break
+returns-in-Break c = let l = c.loop-t in run_ends _ _ _ _ _ _ l.invariant.here l.invariant.sized _ c.in-Break.ensures
 
-pub loop-p-smaller : goal.loop-p-smaller
-loop-p-smaller c =
-    let l = c.loop-p in
-    (run-goes _ _ _ _ _ _ _ l.invariant.1 l.invariant.2 c.step-w.ensures (sym c.goes_on.ensures ∙ c.if-not-goes_on.false)).nearer
+pub loop-t-smaller : goal.loop-t-smaller
+loop-t-smaller c =
+    let l = c.loop-t in
+    (run-goes _ _ _ _ _ _ l.invariant.here l.invariant.sized _ c.in-Continue.ensures).nearer
 
-pub loop-p-preserved : goal.loop-p-preserved
-loop-p-preserved c =
-    let l = c.loop-p in
-    let g = run-goes _ _ _ _ _ _ _ l.invariant.1 l.invariant.2 c.step-w.ensures (sym c.goes_on.ensures ∙ c.if-not-goes_on.false) in
-    (g.fine, g.here, c.step-w.ensures.sized ∙ l.invariant.2)
+pub loop-t-preserved : goal.loop-t-preserved
+loop-t-preserved c =
+    let l = c.loop-t in
+    let g = run-goes _ _ _ _ _ _ l.invariant.here l.invariant.sized _ c.in-Continue.ensures in
+    record { fine = g.fine; here = g.here; sized = c.in-Continue.ensures.sized ∙ l.invariant.sized }

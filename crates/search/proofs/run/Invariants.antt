@@ -8,8 +8,13 @@ use Rattle.problem.specs.Laid.{clauses_in}
 use Rattle.search.specs.Steps.{effort, Fine, At}
 use Rattle.search.proofs.run.Given as goal
 
-abbrev pub invariant-loop-p : goal.invariant-loop-p
-invariant-loop-p l = Fine l.p l.allowance l.s × At l.p l.allowance (search sound (clauses_in l.p) 0 [] l.allowance) l.s l.reasons × (length l.reasons ≡ length l.initial.reasons)
+abbrev pub invariant-loop-t : goal.invariant-loop-t
+invariant-loop-t l =
+    record {
+      fine : Fine l.p l.allowance l.s;
+      here : At l.p l.allowance (search sound (clauses_in l.p) 0 [] l.allowance) l.s l.reasons;
+      sized : length l.reasons ≡ length l.initial.reasons;
+    }
 
-abbrev pub decreases-loop-p : goal.decreases-loop-p
-decreases-loop-p l = effort l.p l.allowance l.s
+abbrev pub decreases-loop-t : goal.decreases-loop-t
+decreases-loop-t l = effort l.p l.allowance l.s

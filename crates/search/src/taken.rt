@@ -1,0 +1,81 @@
+// The facts of a standing and of a selection, and the dead clauses of a standing.
+ghost use Rattle.std.specs.Prelude.{◌≡◌, [], ◌+◌, ◌<◌, ◌≤◌, take};
+ghost use Rattle.meaning.specs.Decision.{sound};
+ghost use Rattle.meaning.specs.Search.{dead};
+ghost use Rattle.problem.specs.Arcs.{at};
+ghost use Rattle.problem.specs.Laid.{size_of, clause_of};
+ghost use Rattle.facts.specs.Tests.{places};
+ghost use Rattle.held.specs.Held.{held, facts_in, Ready};
+ghost use Rattle.search.specs.Standing.{takes, standing_facts, chosen_facts, Inside, DeadFrom};
+
+use crate::Standing;
+use held::Facts;
+use problem::{CLAUSES, Problem};
+
+// The number by which an opposite follows its alternative.
+const OPPOSITE_FROM: u8 = 64;
+
+// The facts of position `pick` of clause k, put before those of f.
+fn taking(p: Problem, mut f: Facts, k: usize, pick: u8) -> Facts
+    requires { (k < p.m) × (pick < size_of p k) × (places ≤ f.at + at p.starts k) }
+    ensures { (held result ≡ takes (at p.starts k) pick (held f)) × (result.at + pick + 1 ≡ f.at) }
+{
+    let first = p.starts[k];
+    let last = first + pick;
+    for j in first..last {
+        f = f.put(OPPOSITE_FROM + j);
+    }
+    f.put(last)
+}
+
+// The facts of a standing.
+pub fn facts_of(p: Problem, s: Standing) -> Facts
+    requires { Inside p s.picks s.k }
+    ensures { (held result ≡ standing_facts p.starts 0 (take s.k s.picks) []) × (places ≤ result.at + at p.starts s.k) }
+{
+    let mut f = Facts::none();
+    for c in 0..s.k {
+        f = taking(p, f, c, s.picks[c]);
+    }
+    f
+}
+
+// The alternatives of the selection of the picks, as facts.
+pub fn chosen_of(p: Problem, picks: [u8; CLAUSES]) -> Facts
+    requires { Inside p picks p.m }
+    ensures { (held result ≡ chosen_facts p.starts 0 (take p.m picks)) × (result.at + p.m ≡ places) }
+{
+    let mut f = Facts::none();
+    for i in (0..p.m).rev() {
+        f = f.put(p.starts[i] + picks[i]);
+    }
+    f
+}
+
+// Whether clause d is dead: no alternative of it has a timetable together with the facts.
+fn is_dead(p: Problem, f: Facts, d: usize) -> bool
+    requires { Ready p f × (d < p.m) }
+    ensures { result ≡ dead sound (facts_in p f) (clause_of p d) }
+{
+    let first = p.starts[d];
+    let end = p.starts[d + 1];
+    for j in first..end {
+        if f.tested_with(p, j).is_some() {
+            return false;
+        }
+    }
+    true
+}
+
+// The lowest dead clause from clause k on, if there is one.
+pub fn first_dead(p: Problem, f: Facts, k: usize) -> Option<usize>
+    requires { Ready p f × (k ≤ p.m) }
+    ensures { DeadFrom p f k result }
+{
+    for d in k..p.m {
+        if is_dead(p, f, d) {
+            return Some(d);
+        }
+    }
+    None
+}

@@ -1,1 +1,0 @@
--- `leads` says whether an arc leads on. Assumes nothing.

@@ -1,9 +1,13 @@
 -- The table of no facts, written number by number. Assumes nothing.
+use Rattle.std.proofs.Common.{rules, replicate}
+use Rattle.std.proofs.lemmas.List.{places}
+use borrow.Rule.Slice.PartMut.{put_mid}
+use Rattle.std.proofs.lemmas.Nat.{same_from_place}
 use mathlib.Core.Path.{◌≡◌, refl, sym, ap, ◌∙◌}
 use mathlib.Core.Logic.{◌⊎◌, inl, inr, by_cases}
 use mathlib.Core.List.Memᴰ
 use mathlib.Core.List.{List, []}
-use Prim.Native.Nat.{ℕ, ◌+◌, ◌*◌, ◌<◌, ◌≤◌}
+use Prim.Native.Nat.{ℕ, ◌+◌, ◌-◌, ◌*◌, ◌<◌, ◌≤◌}
 use native.Mathlib.Omega.{arith}
 use native.Mathlib.Decide.{ℕ_discrete}
 use lib.ListN.{length, set, length-set}
@@ -15,23 +19,20 @@ use Rattle.distances.specs.Rows.{Beside, Outside}
 use Rattle.distances.specs.Rows.{Blanked, Begun}
 use Rattle.distances.proofs.Afresh.{fresh-same, fresh-other, fresh-day}
 use Rattle.distances.proofs.Numbers.{place}
-use Rattle.distances.proofs.Tables.{same_place}
 use Rattle.distances.proofs.Meaning.{same-day}
 
-pub blank_none : (r : List ℕ) (from : ℕ) → Blanked r r from from
-blank_none r from = record { long = refl; blank = λ k l m. absurd (omega arith); rest = λ k h. refl }
-
-pub blank-more : (r s : List ℕ) (from k : ℕ) → Blanked r s from k → from ≤ k → k < length r → Blanked r (set s k no_way) from (k + 1)
-blank-more r s from k h f l =
-    record {
-      long = length-set s k no_way ∙ h.long;
-      blank = λ j a b. by_cases (ℕ_discrete j k) (λ q. rw q (get_or-set_same s k no_way 0 (omega (arith, h.long)))) (λ q. get_or-set_other s k j no_way 0 q ∙ h.blank j a (omega arith));
+-- a part of the list filled with none
+pub filled : (r x : List ℕ) (from to : ℕ) → from ≤ to → to ≤ length r → x ≡ replicate (to - from) no_way → Blanked r (put_mid from (to - from) r x) from to
+filled r x from to f l e =
+    rw e (record {
+      long = search (rules, places);
+      blank = λ j a b. grind (arith, places);
       rest = other;
-    }
+    })
   where
-    other : (j : ℕ) → (j < from) ⊎ (k + 1 ≤ j) → at (set s k no_way) j ≡ at r j
-    other j (inl a) = get_or-set_other s k j no_way 0 (omega arith) ∙ h.rest j (inl a)
-    other j (inr a) = get_or-set_other s k j no_way 0 (omega arith) ∙ h.rest j (inr (omega arith))
+    other : (j : ℕ) → (j < from) ⊎ (to ≤ j) → at (put_mid from (to - from) r (replicate (to - from) no_way)) j ≡ at r j
+    other j (inl a) = grind (arith, places)
+    other j (inr a) = grind (arith, places)
 
 -- the first k events are 0 from themselves, and no other way leads anywhere
 pub record Started (r s : List ℕ) (base w n k : ℕ) : Type 0 where
@@ -52,19 +53,19 @@ module _ (r : List ℕ) (base w n : ℕ) (wide : n ≤ w) where
         rest = λ j b. refl;
       }
 
-  pub started-more : (s : List ℕ) (k : ℕ) → Started r s base w n k → k < n → base + n * w ≤ length r → Started r (set s (base + (k * w + k)) middle) base w n (k + 1)
-  started-more s k h l f =
-      record {
+  pub started-more : (s : List ℕ) (k : ℕ) {p : ℕ} → Started r s base w n k → k < n → base + n * w ≤ length r → p ≡ base + (k * w + k) → Started r (set s p middle) base w n (k + 1)
+  started-more s k h l f q =
+      rw q (record {
         long = length-set s (base + (k * w + k)) middle ∙ h.long;
         own = λ u m. by_cases (ℕ_discrete u k)
             (λ q. rw q (get_or-set_same s (base + (k * w + k)) middle 0 (omega (arith, h.long, place n w k k l (omega arith)))))
-            (λ q. get_or-set_other s (base + (k * w + k)) (base + (u * w + u)) middle 0 (λ e. q (same_place w u u k k (omega arith) (omega arith) (omega arith)).0) ∙ h.own u (omega arith));
+            (λ q. get_or-set_other s (base + (k * w + k)) (base + (u * w + u)) middle 0 (λ e. q (same_from_place u u k k w (omega arith) (omega arith) (omega arith)).0) ∙ h.own u (omega arith));
         other = λ u v a b q. get_or-set_other s (base + (k * w + k)) (base + (u * w + v)) middle 0
-            (λ e. let (x, y) = same_place w u v k k (omega arith) (omega arith) (omega arith) in never-past (q (x ∙ sym y)) x)
+            (λ e. let (x, y) = same_from_place u v k k w (omega arith) (omega arith) (omega arith) in never-past (q (x ∙ sym y)) x)
             ∙ h.other u v a b (λ e. less (q e));
         past = λ j a b o. get_or-set_other s (base + (k * w + k)) j middle 0 (o k k l l) ∙ h.past j a b o;
         rest = rest;
-      }
+      })
     where
       never-past : {u : ℕ} → k + 1 ≤ u → u ≡ k → ⊥
       never-past a b = omega arith

@@ -1,5 +1,5 @@
 -- The latest timetable in minutes before closing, read off the numbers of a day. Assumes nothing.
-use mathlib.Core.Path.{◌≡◌, refl, sym, ap, ap₂, ◌∙◌}
+use mathlib.Core.Path.{◌≡◌, refl, sym, ap, ◌∙◌}
 use mathlib.Core.Logic.{◌⊎◌, inl, inr, ⊎_elim}
 use mathlib.Core.List.{List, [], ◌∷◌, map}
 use Prim.Native.Nat.{ℕ, zero, suc, ◌+◌, ◌*◌, ◌-◌, ◌<◌, ◌≤◌, max, zero-le}
@@ -24,9 +24,9 @@ use Rattle.distances.proofs.Numbers.{distance-far, distance_none}
 use Rattle.distances.proofs.Timetables.{latest-same}
 
 -- one row more
-pub minutes-more : (s : List ℕ) (base w v u row m r : ℕ) → m ≡ minutes_of s base w v u → row ≡ u * w → r ≡ max m (middle - at s (base + (row + v))) → r ≡ minutes_of s base w v (u + 1)
+pub minutes-more : (s : List ℕ) (base w v u m r : ℕ) → m ≡ minutes_of s base w v u → r ≡ max m (middle - at s (base + (u * w + v))) → r ≡ minutes_of s base w v (u + 1)
 unfolding minutes_of
-minutes-more s base w v u row m r p q e = rw (add-one u) (e ∙ ap₂ (λ (m k : ℕ). max m (middle - at s (base + (k + v)))) p q)
+minutes-more s base w v u m r p e = rw (add-one u) (e ∙ ap (λ (k : ℕ). max k (middle - at s (base + (u * w + v)))) p)
 
 pub minutes-small : (s : List ℕ) (base w v k : ℕ) → minutes_of s base w v k ≤ middle
 unfolding minutes_of

@@ -1,10 +1,10 @@
 -- A table extended row by row, into another one or where it lies. Assumes nothing.
-use mathlib.Core.Path.{◌≡◌, refl, sym, ap, ap₂, ◌∙◌}
+use Rattle.std.proofs.lemmas.Nat.{same_from_place}
+use mathlib.Core.Path.{◌≡◌, sym, ap, ap₂, ◌∙◌}
 use mathlib.Core.Logic.{◌⊎◌, inl, inr, ⊎_elim, by_cases}
 use mathlib.Core.List.{List}
 use Prim.Native.Nat.{ℕ, suc, ◌+◌, ◌*◌, ◌-◌, ◌<◌, ◌≤◌}
 use native.Mathlib.Nat.{suc-mul, mul-le-mul_right}
-use native.Mathlib.Numerals.{add-one}
 use native.Mathlib.Omega.{arith}
 use native.Mathlib.Decide.{ℕ_discrete}
 use lib.ListN.{length}
@@ -26,42 +26,19 @@ pub record Extending (r s : List ℕ) (from to w n x y b u : ℕ) : Type 0 where
 pub row-past : (w i j : ℕ) → i < j → i * w + w ≤ j * w
 row-past w i j l = omega (arith, mul-le-mul_right w (let h : suc i ≤ j = l in h), suc-mul i w)
 
--- the row of a turn lies in the table
-pub row_in : (row u w n : ℕ) → row ≡ u * w → u < n → row + w ≤ n * w
-row_in row u w n e l = omega (arith, row-past w u n l, e)
-
--- two places of a table are the same only for the same entry
-pub same_place : (w u v i j : ℕ) → v < w → j < w → u * w + v ≡ i * w + j → (u ≡ i) × (v ≡ j)
-same_place w u v i j a b e =
-    by_cases (ℕ_discrete u i) (λ q. (q, omega (arith, ap (λ (k : ℕ). k * w) q)))
-    (λ q. ⊎_elim (λ (l : u < i). absurd (apart (row-past w u i l))) (λ (l : i ≤ u). absurd (behind (row-past w i u (omega arith)))) (lt-or-ge u i))
-  where
-    apart : u * w + w ≤ i * w → ⊥
-    apart h = omega arith
-
-    behind : i * w + w ≤ u * w → ⊥
-    behind h = omega arith
-
 -- what lies beside the table is outside it, and so is what lies past its rows' entries
 pub beside-outside : (k to w n : ℕ) → n ≤ w → Beside k to (n * w) → Outside k to w n
 beside-outside k to w n wide (inl b) u v l m e = omega arith
 beside-outside k to w n wide (inr b) u v l m e = omega (arith, place n w u v l (omega arith))
 
 pub past-outside : (to w n u v : ℕ) → n ≤ w → v < w → (n ≤ u) ⊎ (n ≤ v) → Outside (to + (u * w + v)) to w n
-past-outside to w n u v wide a o i j l m e = go (same_place w u v i j a (omega arith) (omega arith)) o
+past-outside to w n u v wide a o i j l m e = go (same_from_place u v i j w a (omega arith) (omega arith)) o
   where
     go : (u ≡ i) × (v ≡ j) → (n ≤ u) ⊎ (n ≤ v) → ⊥
     go (p, q) (inl h) = omega arith
     go (p, q) (inr h) = omega arith
 
--- where the next row starts
-pub row_next : (row u w : ℕ) → row ≡ u * w → row + w ≡ (u + 1) * w
-row_next row u w q = ap (λ (k : ℕ). k + w) q ∙ sym (suc-mul u w) ∙ ap (λ (k : ℕ). k * w) (sym (add-one u))
-
 module _ (r : List ℕ) (from to w n x y b : ℕ) where
-  pub extending-none : Extending r r from to w n x y b 0
-  extending-none = record { long = refl; done = λ i v l. absurd (omega arith); ahead = λ i v h l m. refl; through = λ v l. refl; rest = λ k h. refl }
-
   pub extending-all : (s : List ℕ) → Extending r s from to w n x y b n → Extended r s from to w n x y b
   extending-all s h = record { long = h.long; each = h.done; rest = h.rest }
 

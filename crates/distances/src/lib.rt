@@ -2,14 +2,14 @@
 // table from place `base` on has its entry [u][v] at base + u * w + v, a distance z as z + 2,300,024.
 #![tactic(auto)]
 
-ghost use Rattle.std.specs.Prelude.{◌≡◌, true, List, ◌∷◌, ℕ, ◌+◌, ◌-◌, ◌*◌, ◌<◌, ◌≤◌, max, leb, length, take};
+ghost use Rattle.std.specs.Prelude.{◌≡◌, true, List, ◌∷◌, ℕ, ◌+◌, ◌-◌, ◌*◌, ◌^◌, ◌<◌, ◌≤◌, leb, length, take};
 ghost use Rattle.meaning.specs.Limits.{most_events};
 ghost use Rattle.meaning.specs.Problem.{Alternative};
 ghost use Rattle.meaning.specs.Decision.{sound, least};
 ghost use Rattle.problem.specs.Arcs.{bias, at};
 ghost use Rattle.distances.specs.Distances.{DayOf};
 ghost use Rattle.distances.specs.Numbers.{middle, turn, shift, lowered, blocked, table_at, minutes_of, Stands, Holds};
-ghost use Rattle.distances.specs.Rows.{Blanked, Begun, Clear, RowLowered, Room, Extended};
+ghost use Rattle.distances.specs.Rows.{Begun, Clear, RowLowered, Room, Extended};
 
 use problem::EVENTS;
 
@@ -24,6 +24,34 @@ const TURN: u32 = 2400025;
 
 // What stands for the way over a fact whose start is not reached.
 const BLOCKED: u32 = 2147483648;
+
+// Where a table lies in a slice: n rows of n entries from place `base` on, w places from row to row.
+#[derive(Clone, Copy)]
+pub struct Grid {
+    pub base: usize,
+    pub w: usize,
+    pub n: usize,
+    ghost wide: { n ≤ w },
+}
+
+impl Grid {
+    // The place of the entry from u to v.
+    fn place(self, u: usize, v: usize) -> usize
+        requires { (self.base + self.n * self.w < 2 ^ 64) × (u < self.n) × (v < self.n) }
+        ensures { result ≡ self.base + (u * self.w + v) }
+    {
+        self.base + (u * self.w + v)
+    }
+}
+
+// A fact (x, y, c), c as b.
+#[derive(Clone, Copy)]
+pub struct Fact {
+    pub x: usize,
+    pub y: usize,
+    pub b: u32,
+    ghost bounded: { b < 2 * bias },
+}
 
 // What the way to a fact's start, of number p, and the fact, of bound b, add.
 #[tactic(auto, unfolding(crate::specs::Numbers::shift))]
@@ -41,13 +69,7 @@ fn lower(o: u32, t: u32, e: u32) -> u32
     ensures { result ≡ lowered o t e }
 {
     if e < NO_WAY {
-        let sum = e + t;
-        if TURN <= sum {
-            let n = sum - TURN;
-            if n < o { n } else { o }
-        } else {
-            0
-        }
+        o.min((e + t).saturating_sub(TURN))
     } else {
         o
     }
@@ -58,106 +80,66 @@ fn lower_row(s: &mut [u32], from: usize, to: usize, past: usize, n: usize, t: u3
     requires { (from + n ≤ length s.old) × (to + n ≤ length s.old) × (past + n ≤ length s.old) × (t ≤ blocked) × Clear from to n × Clear past to n }
     ensures { RowLowered s.old s.new from to past n t }
 {
-    let mut v = 0;
-    while v < n {
+    for v in 0..n {
         s[to + v] = lower(s[from + v], t, s[past + v]);
-        v += 1;
     }
 }
 
-// Whether the new fact (x, y, c), c as b, has a timetable with the facts of the day.
-pub fn fits_with(s: &[u32], base: usize, w: usize, n: usize, x: usize, y: usize, b: u32) -> bool
-    requires { (base + n * w ≤ length s.now) × (n ≤ w) × (x < n) × (y < n) × (b < 2 * bias) }
-    ensures numbers { result ≡ leb turn (at s.now (base + (x * w + y)) + b) }
-    ensures decides { (fs : List Alternative) (a : Alternative) → Stands x y b a → DayOf n fs (table_at s.now base w) → result ≡ sound (a ∷ fs) }
+// Whether a new fact has a timetable with the facts of the day.
+pub fn fits_with(s: &[u32], day: Grid, fact: Fact) -> bool
+    requires { (day.base + day.n * day.w ≤ length s.now) × (fact.x < day.n) × (fact.y < day.n) }
+    ensures numbers { result ≡ leb turn (at s.now (day.base + (fact.x * day.w + fact.y)) + fact.b) }
+    ensures decides { (fs : List Alternative) (a : Alternative) → Stands fact.x fact.y fact.b a → DayOf day.n fs (table_at s.now day.base day.w) → result ≡ sound (a ∷ fs) }
 {
-    let e = s[base + (x * w + y)];
-    if TURN <= e { true } else { TURN <= e + b }
+    TURN <= s[day.place(fact.x, fact.y)].saturating_add(fact.b)
 }
 
-// The table at `to` becomes the table at `from` with one fact more; where they are one table, the fact has to fit.
-pub fn extend(s: &mut [u32], from: usize, to: usize, w: usize, n: usize, x: usize, y: usize, b: u32)
-    requires { (from + n * w ≤ length s.old) × (to + n * w ≤ length s.old) × (n ≤ w) × (x < n) × (y < n) × (n ≤ most_events) × (b < 2 * bias) × Room s.old from to w n x y b }
-    ensures numbers { Extended s.old s.new from to w n x y b }
-    ensures day { (fs : List Alternative) (a : Alternative) → Stands x y b a → Holds s.old from w n fs → sound (a ∷ fs) ≡ true → Holds s.new to w n (a ∷ fs) }
+// The table at `to` becomes the day with one fact more; where they are one table, the fact has to fit.
+pub fn extend(s: &mut [u32], day: Grid, to: usize, fact: Fact)
+    requires { (day.base + day.n * day.w ≤ length s.old) × (to + day.n * day.w ≤ length s.old) × (fact.x < day.n) × (fact.y < day.n) × (day.n ≤ most_events) × Room s.old day.base to day.w day.n fact.x fact.y fact.b }
+    ensures numbers { Extended s.old s.new day.base to day.w day.n fact.x fact.y fact.b }
+    ensures day { (fs : List Alternative) (a : Alternative) → Stands fact.x fact.y fact.b a → Holds s.old day.base day.w day.n fs → sound (a ∷ fs) ≡ true → Holds s.new to day.w day.n (a ∷ fs) }
 {
-    let past = from + x * w;
-    let mut row = 0;
-    let mut u = 0;
-    while u < n {
-        let t = shift_of(s[from + (row + y)], b);
-        lower_row(s, from + row, to + row, past, n, t);
-        row += w;
-        u += 1;
+    let past = day.base + fact.x * day.w;
+    for u in 0..day.n {
+        let t = shift_of(s[day.place(u, fact.y)], fact.b);
+        let row = u * day.w;
+        lower_row(s, day.base + row, to + row, past, day.n, t);
     }
 }
 
-// The numbers from one place to another become none.
-fn blank(s: &mut [u32], from: usize, to: usize)
-    requires { (from ≤ to) × (to ≤ length s.old) }
-    ensures { Blanked s.old s.new from to }
+// The table becomes the day of no facts.
+pub fn begin(s: &mut [u32], day: Grid)
+    requires { day.base + day.n * day.w ≤ length s.old }
+    ensures { Begun s.old s.new day.base day.w day.n }
 {
-    let mut k = from;
-    while k < to {
-        s[k] = NO_WAY;
-        k += 1;
-    }
-}
-
-// The table from place `base` on becomes the day of no facts.
-pub fn begin(s: &mut [u32], base: usize, w: usize, n: usize)
-    requires { (base + n * w ≤ length s.old) × (n ≤ w) }
-    ensures { Begun s.old s.new base w n }
-{
-    blank(s, base, base + n * w);
-    let mut row = 0;
-    let mut u = 0;
-    while u < n {
-        s[base + (row + u)] = MIDDLE;
-        row += w;
-        u += 1;
-    }
-}
-
-// The earlier of m minutes before closing and what the number e asks for.
-fn later(m: u32, e: u32) -> u32
-    ensures { result ≡ max m (middle - e) }
-{
-    if e < MIDDLE {
-        let d = MIDDLE - e;
-        if m < d { d } else { m }
-    } else {
-        m
+    s[day.base..day.base + day.n * day.w].fill(NO_WAY);
+    for u in 0..day.n {
+        s[day.place(u, u)] = MIDDLE;
     }
 }
 
 // The minutes before closing of event v in the latest timetable.
-fn latest_of(s: &[u32], base: usize, w: usize, n: usize, v: usize) -> u32
-    requires { (base + n * w ≤ length s.now) × (n ≤ w) × (v < n) }
-    ensures { result ≡ minutes_of s.now base w v n }
+fn latest_of(s: &[u32], day: Grid, v: usize) -> u32
+    requires { (day.base + day.n * day.w ≤ length s.now) × (v < day.n) }
+    ensures { result ≡ minutes_of s.now day.base day.w v day.n }
 {
-    let mut m = 0;
-    let mut row = 0;
-    let mut u = 0;
-    while u < n {
-        m = later(m, s[base + (row + v)]);
-        row += w;
-        u += 1;
+    let mut m = 0u32;
+    for u in 0..day.n {
+        m = m.max(MIDDLE.saturating_sub(s[day.place(u, v)]));
     }
     m
 }
 
 // The latest timetable of the day's facts, in minutes before closing.
-pub fn latest(s: &[u32], base: usize, w: usize, n: usize) -> [u32; EVENTS]
-    requires { (base + n * w ≤ length s.now) × (n ≤ w) × (n ≤ most_events) }
-    ensures times { (fs : List Alternative) → DayOf n fs (table_at s.now base w) → take n result ≡ least n fs }
+pub fn latest(s: &[u32], day: Grid) -> [u32; EVENTS]
+    requires { (day.base + day.n * day.w ≤ length s.now) × (day.n ≤ most_events) }
+    ensures times { (fs : List Alternative) → DayOf day.n fs (table_at s.now day.base day.w) → take day.n result ≡ least day.n fs }
     ensures small { (k : ℕ) → at result k ≤ middle }
 {
     let mut t = [0; EVENTS];
-    let mut v = 0;
-    while v < n {
-        t[v] = latest_of(s, base, w, n, v);
-        v += 1;
+    for v in 0..day.n {
+        t[v] = latest_of(s, day, v);
     }
     t
 }

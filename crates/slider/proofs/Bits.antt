@@ -1,4 +1,5 @@
 -- What a number's bits say of its sign and size: `split_of` by the ranges of the exponent's field. Assumes nothing.
+use Rattle.std.proofs.Common.{Option, None}
 use mathlib.Core.Path.{◌≡◌, refl, sym, ap, ◌∙◌, subst}
 use Prim.Native.Nat.{ℕ, zero, suc, ◌+◌, ◌-◌, ◌*◌, ◌/◌, ◌%◌, ◌^◌, ◌≤◌, ◌<◌, min}
 use native.Mathlib.Nat.{le_trans, le_of_eq, le_of_lt, lt_of_lt_of_le, mul_assoc, mul_right_comm, mul-one, one-mul, eq_of_mul-eq-mul_right, div-add-mod', mul-mod_left, div-eq_of_lt, mod-eq_of_lt, div-one, mod-one, mul-le-mul_left, zero-mul, div-lt_iff_lt-mul, min-eq_left, min-eq_right, le-add_right}
@@ -13,7 +14,7 @@ use lib.Ieee.Exact.{HasValue, odd_sign}
 use lib.Ieee.Nearest.{div_same}
 use borrow.Author.Tests.{eqb-true, eqb-false, eq-eqb, ne_eqb}
 use Rattle.slider.specs.declared.Split.{Split}
-use Rattle.slider.specs.Steps.{cap, places, no_split, finite_split, split_of}
+use Rattle.slider.specs.Steps.{cap, places, finite_split, split_of}
 
 -- ---- the parts of a pattern: its sign, what is below the sign, the exponent's field, the digits
 abbrev pub negative : ℕ → Bool
@@ -54,7 +55,7 @@ same_bool a b c d f g = go (eqb a b) (eqb-true a b) (eqb-false a b)
 pub rest-same : (a b c d : ℕ) → 0 < b → 0 < d → a * d ≡ c * b → eqb (a % b) 0 ≡ eqb (c % d) 0
 rest-same a b c d B D h = same_bool (a % b) 0 (c % d) 0 (no-rest a b c d B D h) (no-rest c d a b D B (sym h))
 
-abbrev fraction_split : Bool → ℕ → ℕ → Split
+abbrev fraction_split : Bool → ℕ → ℕ → Option Split
 fraction_split s a b = finite_split s (min (a / b) cap) (not (eqb (a % b) 0))
 
 -- a finite x is ± a / c, and a * 2 ^ j / c is the fraction A / B
@@ -83,7 +84,7 @@ of_bits_is b = refl
 fields-of : (x : Float) → T (fits binary32 x) → of_fields binary32 (negative (to_bits binary32 x)) (field (to_bits binary32 x)) (digits (to_bits binary32 x)) ≡ x
 fields-of x h = of_bits_is (to_bits binary32 x) ∙ of_bits-to_bits binary32 x h
 
-none_of : (j : ℕ) (c s : Bool) → split_of j (cond c (inf s) nan) ≡ no_split
+none_of : (j : ℕ) (c s : Bool) → split_of j (cond c (inf s) nan) ≡ None
 unfolding split_of
 none_of j true s = refl
 none_of j false s = refl
@@ -95,7 +96,7 @@ at-255 s t = refl
 top_field : (b : ℕ) → first-infinite ≤ below-sign b → field b ≡ 255
 top_field b h = omega arith
 
-pub not_finite : (x : Float) (j : ℕ) → T (fits binary32 x) → first-infinite ≤ below-sign (to_bits binary32 x) → split_of j x ≡ no_split
+pub not_finite : (x : Float) (j : ℕ) → T (fits binary32 x) → first-infinite ≤ below-sign (to_bits binary32 x) → split_of j x ≡ None
 not_finite x j held h =
     let b = to_bits binary32 x in
     let s = negative b in
@@ -103,10 +104,6 @@ not_finite x j held h =
     sym (ap (split_of j) (ap (λ (f : ℕ). of_fields binary32 s f t) (sym (top_field b h)) ∙ fields-of x held))
     ∙ ap (split_of j) (at-255 s t)
     ∙ none_of j (eqb t 0) s
-
-pub split-nan : (j : ℕ) → split_of j nan ≡ no_split
-unfolding split_of
-split-nan j = refl
 
 -- the size in units of 2 ^ -149
 abbrev units : ℕ → ℕ → ℕ

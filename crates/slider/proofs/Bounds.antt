@@ -1,13 +1,14 @@
 -- The bound that `bound_of` makes of a number's parts is what the use takes of the number. Assumes nothing.
+use Rattle.std.proofs.Common.{None, Some}
 use mathlib.Core.Path.{◌≡◌, refl, sym, ap, ◌∙◌, subst}
 use Prim.Native.Nat.{ℕ, ◌+◌, ◌*◌, ◌/◌, ◌%◌, ◌^◌, ◌≤◌, ◌<◌, min}
 use native.Mathlib.Nat.{mul-one, add-zero, min-le_right, min-eq_left}
 use native.Mathlib.Omega.{arith}
 use mathlib.Core.Bool.{Bool, true, false, not, ◌&&◌}
-use lib.Dec.{T, leb, eqb, leb→le, nleb→lt, lit≤}
+use lib.Dec.{T, leb, eqb, leb→le, nleb→lt}
 use lib.Ieee.{Float, nan, inf, fin, up, down, unlike}
 use lib.Ieee.Fits.{down_pos}
-use borrow.Author.Tests.{eqb-true, eqb-false, le-leb, lt-leb}
+use borrow.Author.Tests.{eqb-true, eqb-false, lt-leb}
 use Rattle.slider.specs.declared.Split.{Split}
 use Rattle.slider.specs.declared.Use.{Use}
 use Rattle.slider.specs.declared.Use.TheVariants.{AtMost, AtLeast}
@@ -21,9 +22,6 @@ use Rattle.slider.proofs.Ceiling.{least-floor}
 -- ---- a size and a sign
 pub far-refused : (s : Bool) (n : ℕ) → bound_limit < n → kept (signed s n) ≡ too_far
 far-refused s n h = ap (λ (t : Bool). pick t (bound (signed s n)) too_far) (ap (λ (k : ℕ). leb k bound_limit) (abs-signed s n) ∙ lt-leb n bound_limit h)
-
-pub near-taken : (s : Bool) (n : ℕ) → n ≤ bound_limit → kept (signed s n) ≡ bound (signed s n)
-near-taken s n h = ap (λ (t : Bool). pick t (bound (signed s n)) too_far) (ap (λ (k : ℕ). leb k bound_limit) (abs-signed s n) ∙ le-leb n bound_limit h)
 
 -- a size past the cap is refused, so it may stop there; a is what is added for a rest
 capped : (s : Bool) (n a : ℕ) → kept (signed s (min n cap + a)) ≡ kept (signed s (n + a))
@@ -67,31 +65,36 @@ taken-rounded AtMost false t n D P w = floor-rounded false t n D P w
 taken-rounded AtLeast true t n D P w = least-floor true n D ∙ floor-rounded false t n D P w
 taken-rounded AtLeast false t n D P w = least-floor false n D ∙ floor-rounded true t n D P w
 
--- the bound that `bound_of` makes of a number's parts
+some-same : {a b : Split} → Some a ≡ Some b → b ≡ a
+some-same h = cc
+
+-- what `bound_of` makes of a number's parts
 abbrev pub parts_give : Bool → Split → Outcome
 parts_give up p = limited_gives (unlike p.neg up) p.whole (p.cut && unlike p.neg up)
 
-pub split-gives : (u : Use) (x : Float) → (split_of 0 x).finite ≡ true → parts_give (rounds_up u) (split_of 0 x) ≡ fixed_gives u x
+-- a number with parts is finite, and its parts give what its use takes of it
+pub split-gives : (u : Use) (x : Float) (p : Split) → split_of 0 x ≡ Some p → parts_give (rounds_up u) p ≡ fixed_gives u x
 unfolding split_of fixed_gives
-split-gives u nan f = absurd (subst T (sym f) tt)
-split-gives u (inf s) f = absurd (subst T (sym f) tt)
-split-gives u (fin s m e) f =
+split-gives u nan p h = absurd (cc)
+split-gives u (inf s) p h = absurd (cc)
+split-gives u (fin s m e) p h =
     let n = m * up e in
     let D = down e in
     let t = eqb (n % D) 0 in
     let r = unlike s (rounds_up u) in
-    ap (λ (k : ℕ). limited_gives r (min (k / D) cap) (not (eqb (k % D) 0) && r)) (mul-one n)
+    ap (parts_give (rounds_up u)) (some-same h)
+    ∙ ap (λ (k : ℕ). limited_gives r (min (k / D) cap) (not (eqb (k % D) 0) && r)) (mul-one n)
     ∙ capped-gives r (not t && r) (n / D)
     ∙ ap kept (sym (taken-rounded u s t n D (down_pos e) (record { no-rest = eqb-true (n % D) 0; a-rest = eqb-false (n % D) 0 })))
 
-pub not-finite-unread : (u : Use) (x : Float) → (split_of 0 x).finite ≡ false → fixed_gives u x ≡ unread
+pub no-parts-unread : (u : Use) (x : Float) → split_of 0 x ≡ None → fixed_gives u x ≡ unread
 unfolding split_of fixed_gives
-not-finite-unread u nan f = refl
-not-finite-unread u (inf s) f = refl
-not-finite-unread u (fin s m e) f = absurd (subst T f tt)
+no-parts-unread u nan h = refl
+no-parts-unread u (inf s) h = refl
+no-parts-unread u (fin s m e) h = absurd (cc)
 
-pub whole_le : (j : ℕ) (x : Float) → (split_of j x).whole ≤ cap
+pub whole_le : (j : ℕ) (x : Float) (p : Split) → split_of j x ≡ Some p → p.whole ≤ cap
 unfolding split_of
-whole_le j nan = lit≤ tt
-whole_le j (inf s) = lit≤ tt
-whole_le j (fin s m e) = min-le_right (m * up e * 2 ^ j / down e) cap
+whole_le j nan p h = absurd (cc)
+whole_le j (inf s) p h = absurd (cc)
+whole_le j (fin s m e) p h = subst (λ (q : Split). q.whole ≤ cap) (some-same (sym h)) (min-le_right (m * up e * 2 ^ j / down e) cap)

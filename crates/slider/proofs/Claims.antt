@@ -1,4 +1,5 @@
 -- Claims of the definitions that the contract of `slide` cites: one answer, the floor and the ceiling, the formulas of 01. Others: `Numbers`, `Refusals`, `Waits`, `Worked`. Assumes nothing.
+use Rattle.std.specs.Prelude.{Result}
 use mathlib.Core.Path.{◌≡◌, sym, ap, ◌∙◌}
 use Prim.Native.Nat.{ℕ, suc, ◌<◌}
 use lib.IntN.{ℤ, pos, ◌+ℤ◌, ◌-ℤ◌, ◌*ℤ◌}
@@ -8,7 +9,7 @@ use Rattle.slider.specs.declared.Travel.{Travel}
 use Rattle.slider.specs.declared.Kind.{Kind}
 use Rattle.slider.specs.declared.Kind.TheVariants.{Span, Rate}
 use Rattle.slider.specs.declared.Use.{Use}
-use Rattle.slider.specs.declared.SliderAnswer.{SliderAnswer}
+use Rattle.slider.specs.declared.Refusal.{Refusal}
 use Rattle.slider.specs.Readings.{Reading, at, end_of, work_of, position_of}
 use Rattle.slider.specs.Slider.{told, floor, ceiling, bounded, span_gives, rate_gives, fixed_gives, slider_gives}
 use Rattle.slider.proofs.Floor.{floor-below, floor-above}
@@ -18,7 +19,7 @@ use Rattle.slider.proofs.Rates.{rate-taken}
 
 -- ---- one answer
 -- The contract of `slide` is an equation with a total function of its input, so two answers it allows for one input are the same.
-pub one_answer : (kind : Kind) (position : Float) (used : Use) (a b : SliderAnswer) → a ≡ told (slider_gives kind position used) → b ≡ told (slider_gives kind position used) → a ≡ b
+pub one_answer : (kind : Kind) (position : Float) (used : Use) (a b : Result ℤ Refusal) → a ≡ told (slider_gives kind position used) → b ≡ told (slider_gives kind position used) → a ≡ b
 one_answer kind position used a b p q = p ∙ sym q
 
 -- ---- the floor and the ceiling

@@ -1,6 +1,5 @@
 -- The claims besides the contracts stand in `Claims`, `Numbers`, `Refusals`, `Waits` and `Worked`; the other files lead to them and to the functions' proofs.
 pub mod Whole
-pub mod Word
 pub mod Floor
 pub mod Ceiling
 pub mod Exactly

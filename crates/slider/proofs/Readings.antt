@@ -10,11 +10,14 @@ use lib.Signed.{non_neg}
 use lib.Ieee.{Float, nan, inf, fin, up, down}
 use lib.Ieee.Fits.{down_pos, and_l, and_r}
 use borrow.Author.Tests.{eqb-true}
+use Rattle.std.specs.Prelude.{Ok, Err}
+use Rattle.slider.specs.declared.Refusal.{Refusal}
+use Rattle.slider.specs.declared.Refusal.TheVariants.{Unread}
 use Rattle.slider.specs.declared.Use.{Use}
 use Rattle.slider.specs.declared.Use.TheVariants.{AtMost, AtLeast}
 use Rattle.slider.specs.Readings.{grid, signed, Reading, at, off, pick, reading, allowed, within, position_of}
 use Rattle.slider.specs.Slider.{taken, kept, bounded, fixed_gives}
-use Rattle.slider.specs.Steps.{is_at}
+use Rattle.slider.specs.Steps.{is_at, if_at}
 use Rattle.slider.proofs.Floor.{floor-same}
 use Rattle.slider.proofs.Ceiling.{least-floor}
 use Rattle.slider.proofs.Exactly.{Val, own_sign}
@@ -23,6 +26,15 @@ use Rattle.slider.proofs.Exactly.{Val, own_sign}
 pub at_of : (r : Reading) → is_at r ≡ true → (z : ℤ) × (r ≡ at z)
 at_of (at z) h = (z, refl)
 at_of off h = absurd (subst T (sym h) tt)
+
+-- what `on_grid` answers says whether there is a reading
+pub at_if : (r : Reading) {u : Unit} → if_at r ≡ Ok u → is_at r ≡ true
+at_if (at z) h = refl
+at_if off h = absurd (cc)
+
+pub off_if : (r : Reading) {e : Refusal} → if_at r ≡ Err e → (e ≡ Unread) × (is_at r ≡ false)
+off_if (at z) h = absurd (cc)
+off_if off h = (cc, refl)
 
 -- a number that is read as z has the value z / d
 Says : Float → ℕ → Reading → Type 0

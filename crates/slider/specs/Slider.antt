@@ -1,13 +1,13 @@
 -- What a slider gives. Its numbers are read as whole numbers of parts (`Readings`); what follows is arithmetic on whole numbers. Definitions only.
-use Rattle.std.specs.Prelude.{ℕ, zero, suc, ◌*◌, ◌/◌, leb, ℤ, pos, negsuc, neg_ℤ, nat_abs, ◌+ℤ◌, ◌-ℤ◌, ◌*ℤ◌, Float}
+use Rattle.std.specs.Prelude.{ℕ, zero, suc, ◌*◌, ◌/◌, leb, ℤ, pos, negsuc, neg_ℤ, nat_abs, ◌+ℤ◌, ◌-ℤ◌, ◌*ℤ◌, Float, Result, Ok, Err}
 use Rattle.std.specs.Float.{nan, inf, fin}
 use Rattle.std.specs.Float.Ieee.{up, down}
 use Rattle.slider.specs.declared.Kind.{Kind}
 use Rattle.slider.specs.declared.Kind.TheVariants.{Span, Rate, Fixed}
 use Rattle.slider.specs.declared.Use.{Use}
 use Rattle.slider.specs.declared.Use.TheVariants.{AtMost, AtLeast}
-use Rattle.slider.specs.declared.SliderAnswer.{SliderAnswer}
-use Rattle.slider.specs.declared.SliderAnswer.TheVariants.{Bound, Refused}
+use Rattle.slider.specs.declared.Refusal.{Refusal}
+use Rattle.slider.specs.declared.Refusal.TheVariants.{Unread, AtZero, TooFar}
 use Rattle.slider.specs.Readings.{grid, signed, Reading, at, off, pick, end_of, work_of, position_of}
 
 -- ---- the answers
@@ -22,12 +22,18 @@ pub data Outcome : Type 0 where
   -- "the bound lies outside ±100,000"
   too_far : Outcome
 
--- 01's number, or value, for each case of the answer
-abbrev pub told : Outcome → SliderAnswer
-told (bound z) = Bound z
-told unread = Refused 9
-told at_zero = Refused 10
-told too_far = Refused 11
+-- 01's value, or refusal, for each case of the answer
+abbrev pub told : Outcome → Result ℤ Refusal
+told (bound z) = Ok z
+told unread = Err Unread
+told at_zero = Err AtZero
+told too_far = Err TooFar
+
+-- 01's number for each refusal
+abbrev pub number_of : Refusal → ℕ
+number_of Unread = 9
+number_of AtZero = 10
+number_of TooFar = 11
 
 -- ---- the bound for a value z / d
 -- the largest whole number not above z / d

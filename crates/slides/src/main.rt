@@ -1,7 +1,7 @@
 // Prints the worked cases of sliders, 01's and A2's, and cases at the edges, one to a line, each in both uses.
 #![tactic(auto)]
 
-use slider::{Kind, SliderAnswer, Travel, Use};
+use slider::{Kind, Refusal, Travel, Use};
 
 // A whole number of 32 bits at its longest: a sign and ten digits.
 const WHOLE: usize = 11;
@@ -14,12 +14,12 @@ fn write_whole(z: i32) {
 }
 
 // Writes an answer: the bound, or the refusal number.
-fn write_answer(answer: SliderAnswer) {
+fn write_answer(answer: Result<i32, Refusal>) {
     match answer {
-        SliderAnswer::Bound(z) => write_whole(z),
-        SliderAnswer::Refused(n) => {
+        Ok(z) => write_whole(z),
+        Err(refusal) => {
             io::write_all(1, b"refused ");
-            io::print_decimal(1, n as u64);
+            io::print_decimal(1, refusal as u64);
         }
     }
 }
@@ -36,19 +36,12 @@ fn show(asked: &[u8], kind: Kind, position: f32) {
 
 // Shows a Span.
 fn show_span(asked: &[u8], low: f32, high: f32, position: f32) {
-    show(
-        asked,
-        Kind::Span(Travel {
-            low: low,
-            high: high,
-        }),
-        position,
-    );
+    show(asked, Kind::Span(Travel { low, high }), position);
 }
 
 // Shows a Rate.
 fn show_rate(asked: &[u8], work: f32, position: f32) {
-    show(asked, Kind::Rate { work: work }, position);
+    show(asked, Kind::Rate { work }, position);
 }
 
 // Shows a Fixed, at position 0.

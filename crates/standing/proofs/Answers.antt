@@ -1,4 +1,7 @@
 -- What an addition and a reading answer, put together from the code's parts in the order of the tests. Assumes nothing.
+use Rattle.meaning.specs.declared.Refusal.{Refusal}
+use Rattle.meaning.specs.declared.Refusal.TheVariants.{Events, Clauses, Triples, Counts, Event, Bound, Allowance, Lent, Itself, NoTimetable, NoDay, Script, Room}
+use Rattle.meaning.specs.Refusal.{number_of}
 use mathlib.Core.Path.{◌≡◌, refl, sym, ap, ap₂, ◌∙◌, subst}
 use mathlib.Core.Bool.{Bool, true}
 use mathlib.Core.Logic.{⊎_elim}
@@ -63,30 +66,42 @@ module _ (d : Day) (x y c : ℤ) (o : Bool) where
   answer-refused zero h = absurd (h refl)
   answer-refused (suc k) h = refl
 
-  refused-with : (k : ℕ) → k ≡ add_refusal d x y c o → (k ≡ 0 → ⊥) → record { number = k; day = d } ≡ adding d x y c o
+  pub refused-with : (k : ℕ) → k ≡ add_refusal d x y c o → (k ≡ 0 → ⊥) → record { number = k; day = d } ≡ adding d x y c o
   unfolding adding
   refused-with k e h = sym (answer-refused k h) ∙ ap (answered d (asked x y c o)) e
 
-  pub refused-day : (k : ℕ) → k ≡ first_failed (day_tests d) → (k ≡ 0 → ⊥) → record { number = k; day = d } ≡ adding d x y c o
+  pub accepted-with : 0 ≡ add_refusal d x y c o → (new : Day) → new ≡ day_with d.n (added (asked x y c o) (table_of d)) → record { number = 0; day = new } ≡ adding d x y c o
+  unfolding adding answered
+  accepted-with e new h = rw (sym e) (ap (λ (d : Day). record { number = 0; day = d }) h)
+
+  pub refused-day : (k : ℕ) → k ≡ first_failed (day_tests d) → (k ≡ 0 → ⊥) → k ≡ add_refusal d x y c o
   unfolding add_refusal
-  refused-day k e h = refused-with k (e ∙ sym (front-first (day_tests d) _ (subst (λ (k : ℕ). 0 < k) e (some k h)))) h
+  refused-day k e h = e ∙ sym (front-first (day_tests d) _ (subst (λ (k : ℕ). 0 < k) e (some k h)))
 
   module _ (e : first_failed (day_tests d) ≡ 0) where
-    pub refused-fact : (k : ℕ) → k ≡ first_failed (fact_tests d.n x y c) → (k ≡ 0 → ⊥) → record { number = k; day = d } ≡ adding d x y c o
+    pub refused-fact : (k : ℕ) → k ≡ first_failed (fact_tests d.n x y c) → (k ≡ 0 → ⊥) → k ≡ add_refusal d x y c o
     unfolding add_refusal
-    refused-fact k f h = refused-with k (f ∙ sym (after-day d e _ ∙ front-first (fact_tests d.n x y c) _ (subst (λ (k : ℕ). 0 < k) f (some k h)))) h
+    refused-fact k f h = f ∙ sym (after-day d e _ ∙ front-first (fact_tests d.n x y c) _ (subst (λ (k : ℕ). 0 < k) f (some k h)))
 
-    module _ (f : first_failed (fact_tests d.n x y c) ≡ 0) where
-      after-fact : add_refusal d x y c o ≡ first_failed (new_tests d.n (table_of d) (asked x y c o))
-      unfolding add_refusal fact_tests numbered
-      after-fact = after-day d e _ ∙ passed_over (fact_tests d.n x y c) _ (all-passed (fact_tests d.n x y c) tt f)
+    pub after-fact : first_failed (fact_tests d.n x y c) ≡ 0 → add_refusal d x y c o ≡ first_failed (new_tests d.n (table_of d) (asked x y c o))
+    unfolding add_refusal fact_tests numbered
+    after-fact f = after-day d e _ ∙ passed_over (fact_tests d.n x y c) _ (all-passed (fact_tests d.n x y c) tt f)
 
-      pub refused-new : (k : ℕ) → k ≡ first_failed (new_tests d.n (table_of d) (asked x y c o)) → (k ≡ 0 → ⊥) → record { number = k; day = d } ≡ adding d x y c o
-      refused-new k g h = refused-with k (g ∙ sym after-fact) h
-
-      pub accepted-new : (l : List ℤ) → first_failed (new_tests d.n (table_of d) (asked x y c o)) ≡ 0 → l ≡ (day_with d.n (added (asked x y c o) (table_of d))).entries → record { number = 0; day = record { n = d.n; entries = l } } ≡ adding d x y c o
-      unfolding adding answered day_with
-      accepted-new l g h = rw (after-fact ∙ g, h) refl
+-- a refusal's number is none of 0
+pub number-some : (r : Refusal) → number_of r ≡ 0 → ⊥
+number-some Events e = omega arith
+number-some Clauses e = omega arith
+number-some Triples e = omega arith
+number-some Counts e = omega arith
+number-some Event e = omega arith
+number-some Bound e = omega arith
+number-some Allowance e = omega arith
+number-some Lent e = omega arith
+number-some Itself e = omega arith
+number-some NoTimetable e = omega arith
+number-some NoDay e = omega arith
+number-some Script e = omega arith
+number-some Room e = omega arith
 
 -- the numbers of the new day are its entries
 module _ (d : Day) (s : List ℕ) (num : Numbered d.entries s) (few : d.n ≤ most_events) (table : T (is_table d.n (table_of d))) (a : Alternative) (i : a.x < d.n) (j : a.y < d.n) where

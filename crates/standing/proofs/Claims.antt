@@ -37,7 +37,7 @@ use Rattle.standing.proofs.Making.{reach-range}
 use Rattle.standing.proofs.Owning.{own-facts}
 use Rattle.standing.proofs.Agreeing.{few-of}
 use Rattle.standing.proofs.Telling.{day-by, made-follows}
-use Rattle.standing.proofs.Answers.{after-day, refused-fact, read-latest, read_taken}
+use Rattle.standing.proofs.Answers.{after-day, refused-with, refused-fact, read-latest, read_taken}
 
 -- ---- one day for a set of facts
 -- a standing day is what working its facts out afresh gives
@@ -257,7 +257,7 @@ module _ (d : Day) (fs : List Alternative) (h : Kept d fs) (q : Addition) where
     where
       go : (k : ℕ) → first_failed (fact_tests d.n q.x q.y q.c) ≡ k → Kept now.day (then now.number)
       go zero e = sound-or e (sound (fact_of q ∷ fs)) refl
-      go (suc k) e = still k (sym (refused-fact d q.x q.y q.c q.opposite (follows-passes d fs h.follows) (suc k) (sym e) (λ z. omega arith)))
+      go (suc k) e = still k (sym (refused-with d q.x q.y q.c q.opposite (suc k) (refused-fact d q.x q.y q.c q.opposite (follows-passes d fs h.follows) (suc k) (sym e) (λ z. omega arith)) (λ z. omega arith)))
 
   -- from a fresh day nothing refuses but 5, 12, 6 and 13: neither 1 nor 16 ever happens
   pub refused-from-fresh : now.number ≡ first_failed (fact_tests d.n q.x q.y q.c ++ ((13, sound (fact_of q ∷ fs)) ∷ []))

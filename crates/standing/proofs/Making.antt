@@ -1,4 +1,6 @@
 -- The numbers of a fresh day, and of a day with one fact more, stand for the tables of the definitions. Assumes nothing.
+use Rattle.std.specs.Prelude.{Ok, Err}
+use Rattle.meaning.specs.declared.Refusal.TheVariants.{NoTimetable, NoDay}
 use mathlib.Core.Path.{◌≡◌, refl, sym, ap, ◌∙◌, subst}
 use mathlib.Core.Bool.{Bool, true, false}
 use mathlib.Core.Logic.{◌⊎◌, inl, inr, ⊎_elim}
@@ -129,22 +131,22 @@ module _ (s : List ℕ) (n x y b : ℕ) (a : Alternative) (l : x < n) (m : y < n
   fits-code : {r : Bool} → r ≡ leb turn (at s (0 + (x * most_events + y)) + b) → r ≡ fits a (table_at s 0 most_events)
   fits-code e = e ∙ fits-is s 0 most_events n x y b a st l m
 
-  pub tries-unsound : {r : Bool} (z : List ℕ) → r ≡ leb turn (at s (0 + (x * most_events + y)) + b) → r ≡ false → Tries s n a 13 z
+  pub tries-unsound : {r : Bool} → r ≡ leb turn (at s (0 + (x * most_events + y)) + b) → r ≡ false → Tries s n a (Err NoTimetable)
   unfolding new_tests first_failed
-  tries-unsound z e f = record { refusal = rw (sym (fits-code e) ∙ f) refl; entries = λ q. absurd (omega arith) }
+  tries-unsound e f = record { refusal = rw (sym (fits-code e) ∙ f) refl; entries = λ z q. absurd (cc) }
 
   module _ {r q : Bool} (z : List ℕ) (e : r ≡ leb turn (at s (0 + (x * most_events + y)) + b)) (f : r ≡ true) (g : q ≡ every (most_events * most_events) (λ (k : ℕ). in_range (distance (at z k)))) (few : n ≤ most_events) (hb : b < 2 * bias) (cap : Capped s) (table : T (is_table n (table_at s 0 most_events))) (ext : Extended s z 0 0 most_events n x y b) where
     range-code : q ≡ every n (λ (u : ℕ). every n (λ (v : ℕ). in_range (added a (table_at s 0 most_events) u v)))
     range-code = g ∙ range_same s z n x y b a few l m hb st cap table ext
 
-    pub tries-beyond : q ≡ false → Tries s n a 16 z
+    pub tries-beyond : q ≡ false → Tries s n a (Err NoDay)
     unfolding new_tests first_failed
-    tries-beyond h = record { refusal = rw (sym (fits-code e) ∙ f, sym range-code ∙ h) refl; entries = λ q. absurd (omega arith) }
+    tries-beyond h = record { refusal = rw (sym (fits-code e) ∙ f, sym range-code ∙ h) refl; entries = λ t i. absurd (cc) }
 
-    pub tries-taken : q ≡ true → Tries s n a 0 z
+    pub tries-taken : q ≡ true → Tries s n a (Ok z)
     unfolding new_tests first_failed
     tries-taken h =
         record {
           refusal = rw (sym (fits-code e) ∙ f, sym range-code ∙ h) refl;
-          entries = λ _. new-place s z n x y b a few l m hb st cap table ext (subst T (sym (sym range-code ∙ h)) tt);
+          entries = λ t i. let same : z ≡ t = cc in rw (← same) (new-place s z n x y b a few l m hb st cap table ext (subst T (sym (sym range-code ∙ h)) tt));
         }

@@ -1,17 +1,15 @@
 -- One number: what its tests say of the distance that it stands for, the number of an entry, and the entry of a number. Assumes nothing.
-use mathlib.Core.Path.{◌≡◌, refl, sym, ◌∙◌, subst}
+use mathlib.Core.Path.{◌≡◌, refl, sym, ap, ◌∙◌, subst}
 use mathlib.Core.Bool.{true, false}
 use mathlib.Core.Logic.{⊎_elim}
 use Prim.Native.Nat.{ℕ, suc, ◌+◌, ◌*◌, ◌-◌, ◌<◌, ◌≤◌}
 use native.Mathlib.Omega.{arith}
 use lib.Dec.{T, leb, ltb, eqb, leb→le, le→leb, ltb→lt, lt→ltb, eqb→eq}
-use lib.IntN.{ℤ, pos, negsuc, neg_ℤ, nat_abs, sub_ℕ, ◌+ℤ◌}
-use lib.Signed.{le_z, lt_z}
-use mir.Syntax.{w32}
-use mir.Val.{SFits}
-use borrow.Author.Tests.{le-leb, lt-leb, le-ltb, lt-ltb, ltb-true, ltb-false, leb-true, leb-false, eq-eqb, ne_eqb}
+use lib.IntN.{ℤ, pos, negsuc, nat_abs, sub_ℕ, ◌+ℤ◌}
+use lib.Signed.{le_z}
+use borrow.Author.Tests.{le-leb, lt-leb, le-ltb, lt-ltb, eq-eqb, ne_eqb}
 use Rattle.laws.proofs.Order.{lt-or-ge}
-use Rattle.laws.proofs.Tests.{same_test, is_false, never}
+use Rattle.laws.proofs.Tests.{same_test, is_false}
 use Rattle.laws.proofs.Differences.{Minus, below, above, minus}
 use Rattle.laws.proofs.Integers.{sub-law, add-law, le-to, le_of}
 use Rattle.problem.specs.Arcs.{farthest}
@@ -128,56 +126,27 @@ kept-is e p q h k l =
     (λ t. le→leb (e + middle) (p + q) (omega (arith, le-to (sub_ℕ e middle) (sub_ℕ p middle +ℤ sub_ℕ q middle) (record { le = t }), add-law (sub_ℕ p middle) (sub_ℕ q middle), sub-law e middle, sub-law p middle, sub-law q middle))))
 
 -- ---- the number of an entry
-differ : false ≡ true → ⊥
-differ e = never (cc)
-
--- a signed number of 32 bits that is no smaller is none's
-pub said-none : (z : ℤ) → SFits w32 z → le_z no_entry z ≡ true → said z ≡ none
+said-far : (z : ℤ) → (z ≡ no_entry → ⊥) → said z ≡ far z
 unfolding said
-said-none (pos k) h e = rw (eq-eqb k 2147483647 (omega (arith, h.sfits, leb-true 2147483647 k e))) refl
-said-none (negsuc k) h e = absurd (differ e)
+said-far (pos k) h = rw (ne_eqb k 2147483647 (λ q. h (ap pos q))) refl
+said-far (negsuc k) h = refl
 
-pub said-far : (z : ℤ) → le_z no_entry z ≡ false → said z ≡ far z
-unfolding said
-said-far (pos k) e = rw (ne_eqb k 2147483647 (λ q. under (leb-false 2147483647 k e) q)) refl
-  where
-    under : k < 2147483647 → k ≡ 2147483647 → ⊥
-    under l q = omega arith
-said-far (negsuc k) e = refl
+pub number-none : (z : ℤ) → z ≡ no_entry → no_way ≡ number_of (said z)
+unfolding number_of said
+number-none z e = rw e refl
 
-pub number-none : (z : ℤ) → SFits w32 z → le_z no_entry z ≡ true → no_way ≡ number_of (said z)
+-- out of range it is 0
+pub number-out : (z : ℤ) → (z ≡ no_entry → ⊥) → farthest < nat_abs z → 0 ≡ number_of (said z)
 unfolding number_of
-number-none z f h = rw (said-none z f h) refl
-
-far-below : (z : ℤ) → lt_z z (neg_ℤ (pos farthest)) ≡ true → 0 ≡ number_of (far z)
-unfolding number_of
-far-below (pos n) k = absurd (differ k)
-far-below (negsuc n) k =
-    let l : farthest - 1 < n = ltb-true (farthest - 1) n k in
-    rw (lt-leb (suc n) farthest (omega arith)) refl
-
-far-above : (z : ℤ) → lt_z (pos farthest) z ≡ true → 0 ≡ number_of (far z)
-unfolding number_of
-far-above (pos n) k = rw (lt-leb n farthest (ltb-true farthest n k)) refl
-far-above (negsuc n) k = absurd (differ k)
-
-pub number-below : (z : ℤ) → le_z no_entry z ≡ false → lt_z z (neg_ℤ (pos farthest)) ≡ true → 0 ≡ number_of (said z)
-number-below z h k = rw (said-far z h) (far-below z k)
-
-pub number-above : (z : ℤ) → le_z no_entry z ≡ false → lt_z (pos farthest) z ≡ true → 0 ≡ number_of (said z)
-number-above z h k = rw (said-far z h) (far-above z k)
+number-out z h k = rw (said-far z h, lt-leb (nat_abs z) farthest k) refl
 
 -- within the range it is lifted
-pub near-zero : (z : ℤ) → lt_z z (neg_ℤ (pos farthest)) ≡ false → lt_z (pos farthest) z ≡ false → nat_abs z ≤ farthest
-near-zero (pos n) h k = ltb-false farthest n k
-near-zero (negsuc n) h k = let l : n ≤ farthest - 1 = ltb-false (farthest - 1) n h in omega arith
-
 pub far-number : (z : ℤ) → nat_abs z ≤ farthest → number_of (far z) ≡ nat_abs (z +ℤ pos middle)
 unfolding number_of
 far-number z h = rw (le-leb (nat_abs z) farthest h) refl
 
-pub number_is : (z : ℤ) → le_z no_entry z ≡ false → nat_abs z ≤ farthest → nat_abs (z +ℤ pos middle) ≡ number_of (said z)
-number_is z h l = rw (said-far z h) (sym (far-number z l))
+pub number_is : (z : ℤ) → nat_abs z ≤ farthest → nat_abs (z +ℤ pos middle) ≡ number_of (said z)
+number_is z l = rw (said-far z (λ e. let q : nat_abs z ≡ 2147483647 = ap nat_abs e in absurd (omega arith))) (sym (far-number z l))
 
 -- ---- the entry of a number
 pub entry-none : (e : ℕ) → no_way ≤ e → no_entry ≡ entry_of (distance e)

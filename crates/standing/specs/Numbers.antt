@@ -1,7 +1,9 @@
 -- A standing day's entries as numbers, and the test of one number. What the code keeps, and nothing of A8's meaning. Definitions only.
-use Rattle.std.specs.Prelude.{◌≡◌, Bool, cond, not, ◌&&◌, ◌||◌, List, ℕ, ◌*◌, ◌/◌, ◌%◌, ◌<◌, ◌≤◌, leb, ltb, eqb, ℤ, pos, nat_abs, ◌+ℤ◌, length, get_or}
+use Rattle.std.specs.Prelude.{◌≡◌, Bool, cond, not, ◌&&◌, ◌||◌, List, ℕ, ◌*◌, ◌/◌, ◌%◌, ◌<◌, ◌≤◌, leb, ltb, eqb, ℤ, pos, nat_abs, ◌+ℤ◌, length, get_or, Result, Ok}
 use Rattle.meaning.specs.Limits.{most_events, opposite_from}
 use Rattle.meaning.specs.Problem.{Alternative}
+use Rattle.meaning.specs.declared.Refusal.{Refusal}
+use Rattle.meaning.specs.Refusal.{told_as}
 use Rattle.meaning.specs.Screen.{first_failed}
 use Rattle.problem.specs.Arcs.{at, farthest}
 use Rattle.distances.specs.Distances.{Distance, none, far}
@@ -33,6 +35,6 @@ unfoldable pub arc_number : Bool → ℕ
 arc_number o = cond o opposite_from 0
 
 -- a fact is tried on the numbers of a day: the refusal, or the numbers of the day with it
-pub record Tries (s : List ℕ) (n : ℕ) (a : Alternative) (number : ℕ) (numbers : List ℕ) : Type 0 where
-  pub refusal : number ≡ first_failed (new_tests n (table_at s 0 most_events) a)
-  pub entries : number ≡ 0 → (k : ℕ) → k < most_events * most_events → distance (at numbers k) ≡ among n (added a (table_at s 0 most_events)) (k / most_events) (k % most_events)
+pub record Tries (s : List ℕ) (n : ℕ) (a : Alternative) (tried : Result (List ℕ) Refusal) : Type 0 where
+  pub refusal : told_as tried ≡ first_failed (new_tests n (table_at s 0 most_events) a)
+  pub entries : (numbers : List ℕ) → tried ≡ Ok numbers → (k : ℕ) → k < most_events * most_events → distance (at numbers k) ≡ among n (added a (table_at s 0 most_events)) (k / most_events) (k % most_events)

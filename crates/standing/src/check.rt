@@ -4,12 +4,14 @@ ghost use Rattle.meaning.specs.Limits.{most_events};
 ghost use Rattle.problem.specs.Arcs.{at};
 ghost use Rattle.distances.specs.Adding.{no_longer, and_then};
 ghost use Rattle.distances.specs.Numbers.{distance, table_at};
-ghost use Rattle.meaning.specs.Screen.{first_failed};
+ghost use Rattle.meaning.specs.Refusal.{told_as};
+ghost use Rattle.meaning.specs.Screen.{is_size, first_failed};
 ghost use Rattle.standing.specs.Standing.{every, in_range, is_table, table_tests};
 ghost use Rattle.standing.specs.Numbers.{placed_at};
 
 use super::ENTRIES;
 use distances::{MIDDLE, NO_WAY};
+use meaning::Refusal;
 use problem::EVENTS;
 
 // One more than the number of the longest distance.
@@ -19,13 +21,7 @@ const RANGE_END: u32 = 4600048;
 fn is_number(e: u32) -> bool
     ensures { result ≡ in_range (distance e) }
 {
-    if NO_WAY <= e {
-        return true;
-    }
-    if e < 1 {
-        return false;
-    }
-    e < RANGE_END
+    NO_WAY <= e || (1 <= e && e < RANGE_END)
 }
 
 // Whether all numbers are.
@@ -33,30 +29,18 @@ pub fn all_numbers(s: &[u32]) -> bool
     requires { length s.now ≡ most_events * most_events }
     ensures { result ≡ every (most_events * most_events) (λ (k : ℕ). in_range (distance (at s.now k))) }
 {
-    let mut k = 0;
-    while k < ENTRIES {
-        if !is_number(s[k]) {
-            return false;
-        }
-        k += 1;
-    }
-    true
+    s.iter().all(|&e| is_number(e))
 }
 
 // Whether a number may stand from event u to event v: none's past the last event, and 0's from an event to itself.
 fn is_placed(e: u32, u: usize, v: usize, n: usize) -> bool
     ensures { result ≡ placed_at n u v (distance e) }
 {
-    if n <= u {
-        return NO_WAY <= e;
+    if n <= u || n <= v {
+        NO_WAY <= e
+    } else {
+        u != v || e == MIDDLE
     }
-    if n <= v {
-        return NO_WAY <= e;
-    }
-    if u == v {
-        return e == MIDDLE;
-    }
-    true
 }
 
 // Whether all numbers may stand where they do.
@@ -64,30 +48,17 @@ fn all_placed(s: &[u32], n: usize) -> bool
     requires { length s.now ≡ most_events * most_events }
     ensures { result ≡ every (most_events * most_events) (λ (k : ℕ). placed_at n (k / most_events) (k % most_events) (distance (at s.now k))) }
 {
-    let mut k = 0;
-    while k < ENTRIES {
-        if !is_placed(s[k], k / EVENTS, k % EVENTS, n) {
-            return false;
-        }
-        k += 1;
-    }
-    true
+    (0..ENTRIES).all(|k| is_placed(s[k], k / EVENTS, k % EVENTS, n))
 }
 
 // Whether the distance of e is no longer than the way of p and then q.
 fn is_kept(e: u32, p: u32, q: u32) -> bool
     ensures { result ≡ no_longer (distance e) (and_then (distance p) (distance q)) }
 {
-    if NO_WAY <= p {
+    if NO_WAY <= p || NO_WAY <= q {
         return true;
     }
-    if NO_WAY <= q {
-        return true;
-    }
-    if NO_WAY <= e {
-        return false;
-    }
-    e + MIDDLE <= p + q
+    e < NO_WAY && e + MIDDLE <= p + q
 }
 
 // Whether no way from u over w is shorter than an entry from u.
@@ -96,14 +67,7 @@ fn over_kept(s: &[u32], n: usize, u: usize, w: usize) -> bool
     ensures { result ≡ every n (λ (v : ℕ). no_longer (table_at s.now 0 most_events u v) (and_then (table_at s.now 0 most_events u w) (table_at s.now 0 most_events w v))) }
 {
     let p = s[u * EVENTS + w];
-    let mut v = 0;
-    while v < n {
-        if !is_kept(s[u * EVENTS + v], p, s[w * EVENTS + v]) {
-            return false;
-        }
-        v += 1;
-    }
-    true
+    (0..n).all(|v| is_kept(s[u * EVENTS + v], p, s[w * EVENTS + v]))
 }
 
 // Whether no detour from u is shorter than an entry.
@@ -111,14 +75,7 @@ fn from_kept(s: &[u32], n: usize, u: usize) -> bool
     requires { (length s.now ≡ most_events * most_events) × (n ≤ most_events) × (u < n) }
     ensures { result ≡ every n (λ (w : ℕ). every n (λ (v : ℕ). no_longer (table_at s.now 0 most_events u v) (and_then (table_at s.now 0 most_events u w) (table_at s.now 0 most_events w v)))) }
 {
-    let mut w = 0;
-    while w < n {
-        if !over_kept(s, n, u, w) {
-            return false;
-        }
-        w += 1;
-    }
-    true
+    (0..n).all(|w| over_kept(s, n, u, w))
 }
 
 // Whether no detour is shorter than an entry.
@@ -126,14 +83,7 @@ fn all_kept(s: &[u32], n: usize) -> bool
     requires { (length s.now ≡ most_events * most_events) × (n ≤ most_events) }
     ensures { result ≡ every n (λ (u : ℕ). every n (λ (w : ℕ). every n (λ (v : ℕ). no_longer (table_at s.now 0 most_events u v) (and_then (table_at s.now 0 most_events u w) (table_at s.now 0 most_events w v))))) }
 {
-    let mut u = 0;
-    while u < n {
-        if !from_kept(s, n, u) {
-            return false;
-        }
-        u += 1;
-    }
-    true
+    (0..n).all(|u| from_kept(s, n, u))
 }
 
 // Whether the numbers are a standing day of n events.
@@ -141,28 +91,26 @@ pub fn is_table(s: &[u32], n: usize) -> bool
     requires { (length s.now ≡ most_events * most_events) × (n ≤ most_events) }
     ensures { result ≡ is_table n (table_at s.now 0 most_events) }
 {
-    if !all_numbers(s) {
-        return false;
-    }
-    if !all_placed(s, n) {
-        return false;
-    }
-    all_kept(s, n)
+    all_numbers(s) && all_placed(s, n) && all_kept(s, n)
 }
 
-// What refuses a lent day everywhere: 1, 16, or 0.
-pub fn day_refusal(s: &[u32], n: u32) -> u8
-    requires { length s.now ≡ most_events * most_events }
-    ensures { result ≡ first_failed (table_tests n (table_at s.now 0 most_events)) }
+// Whether there may be n events.
+pub fn is_size(n: u32) -> bool
+    ensures { result ≡ is_size n }
 {
-    if n < 1 {
-        return 1;
-    }
-    if EVENTS < n as usize {
-        return 1;
+    1 <= n && n as usize <= EVENTS
+}
+
+// What refuses a lent day everywhere: 1 or 16.
+pub fn day_refusal(s: &[u32], n: u32) -> Result<(), Refusal>
+    requires { length s.now ≡ most_events * most_events }
+    ensures { told_as result ≡ first_failed (table_tests n (table_at s.now 0 most_events)) }
+{
+    if !is_size(n) {
+        return Err(Refusal::Events);
     }
     if !is_table(s, n as usize) {
-        return 16;
+        return Err(Refusal::NoDay);
     }
-    0
+    Ok(())
 }

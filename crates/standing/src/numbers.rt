@@ -1,5 +1,5 @@
 // The door: a day's signed entries as the numbers that `distances` works with, and back.
-ghost use Rattle.std.specs.Prelude.{◌≡◌, ℕ, ◌*◌, ◌<◌};
+ghost use Rattle.std.specs.Prelude.{◌≡◌, ℕ, ◌*◌, ◌<◌, ◌≤◌};
 ghost use Rattle.meaning.specs.Limits.{most_events};
 ghost use Rattle.distances.specs.Numbers.{distance};
 ghost use Rattle.problem.specs.Arcs.{at};
@@ -7,39 +7,47 @@ ghost use Rattle.standing.specs.Entries.{said, entry_of, list_of};
 ghost use Rattle.standing.specs.Numbers.{number_of, Numbered};
 
 use super::ENTRIES;
-use distances::{MIDDLE, NO_WAY};
+use distances::{Grid, MIDDLE, NO_WAY};
+use problem::EVENTS;
 
 // The entry that stands for none.
 const NO_ENTRY: i32 = 2147483647;
 
 // The longest distance.
-const FARTHEST: i32 = 2300023;
+const FARTHEST: u32 = 2300023;
+
+// Where the numbers of a day of n events lie.
+pub fn grid(n: usize) -> Grid
+    requires { n ≤ most_events }
+    ensures { (result.base ≡ 0) × (result.w ≡ most_events) × (result.n ≡ n) }
+{
+    Grid {
+        base: 0,
+        w: EVENTS,
+        n,
+    }
+}
 
 // The number of an entry; of one out of range 0, which is out of range too.
 fn number_of(z: i32) -> u32
     ensures { result ≡ number_of (said z) }
 {
-    if NO_ENTRY <= z {
+    if z == NO_ENTRY {
         return NO_WAY;
     }
-    if z < -FARTHEST {
-        return 0;
-    }
-    if FARTHEST < z {
+    if FARTHEST < z.unsigned_abs() {
         return 0;
     }
     lent::lifted(z, MIDDLE)
 }
 
 // The numbers of a day's entries.
-pub fn numbers_of(entries: [i32; ENTRIES]) -> [u32; ENTRIES]
-    ensures { Numbered entries result }
+pub fn numbers_of(entries: &[i32; ENTRIES]) -> [u32; ENTRIES]
+    ensures { Numbered entries.now result }
 {
     let mut numbers = [0u32; ENTRIES];
-    let mut k = 0;
-    while k < ENTRIES {
-        numbers[k] = number_of(entries[k]);
-        k += 1;
+    for (k, &z) in entries.iter().enumerate() {
+        numbers[k] = number_of(z);
     }
     numbers
 }
@@ -49,20 +57,19 @@ fn entry_of(e: u32) -> i32
     ensures { result ≡ entry_of (distance e) }
 {
     if NO_WAY <= e {
-        return NO_ENTRY;
+        NO_ENTRY
+    } else {
+        lent::lowered(e, MIDDLE)
     }
-    lent::lowered(e, MIDDLE)
 }
 
 // The entries of a day's numbers.
-pub fn entries_of(numbers: [u32; ENTRIES]) -> [i32; ENTRIES]
-    ensures { result ≡ list_of (most_events * most_events) (λ (k : ℕ). entry_of (distance (at numbers k))) }
+pub fn entries_of(numbers: &[u32; ENTRIES]) -> [i32; ENTRIES]
+    ensures { result ≡ list_of (most_events * most_events) (λ (k : ℕ). entry_of (distance (at numbers.now k))) }
 {
     let mut entries = [0i32; ENTRIES];
-    let mut k = 0;
-    while k < ENTRIES {
-        entries[k] = entry_of(numbers[k]);
-        k += 1;
+    for (k, &e) in numbers.iter().enumerate() {
+        entries[k] = entry_of(e);
     }
     entries
 }

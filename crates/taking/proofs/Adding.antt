@@ -1,4 +1,5 @@
 -- One fact more, and the facts of a position, table by table. Assumes nothing.
+use Rattle.std.specs.Prelude.{Option, None, Some}
 use mathlib.Core.Path.{◌≡◌, refl, sym, ◌∙◌, subst}
 use mathlib.Core.Bool.{Bool, true, false, false≢true}
 use mathlib.Core.List.{List, ◌∷◌}
@@ -6,7 +7,6 @@ use Prim.Native.Nat.{ℕ, ◌+◌, ◌-◌, ◌*◌, ◌<◌, ◌≤◌}
 use native.Mathlib.Omega.{arith}
 use borrow.Author.Tests.{leb-true}
 use lib.ListN.{length}
-use Rattle.meaning.specs.Limits.{opposite_from}
 use Rattle.meaning.specs.Problem.{Alternative}
 use Rattle.meaning.specs.Decision.{sound}
 use Rattle.problem.specs.Arcs.{Net, at, arc}
@@ -16,7 +16,6 @@ use Rattle.distances.specs.Rows.{Beside, Room, apart as roomApart, in_place, Ext
 use Rattle.distances.proofs.Tables.{beside-outside}
 use Rattle.distances.proofs.Meaning.{fits-means}
 use Rattle.taking.specs.Taking.{passed, taken, Before, apart, here, Held, Adds, Passes}
-use Rattle.taking.specs.declared.Passed.{Passed}
 use Rattle.taking.proofs.Passing.{passed_none, passed-more, unsound-first, unsound-taken}
 
 -- ---- one fact more
@@ -42,29 +41,7 @@ module _ (r : List ℕ) (from to n : ℕ) (a : Alternative) (ok : Bool) (decides
           day = λ t fs h. day fs h (sym (decides fs h.day) ∙ e);
         }
 
-  -- a fact that does not fit is not added
-  pub adds_none : ok ≡ false → Adds r r from to n (λ fs. a ∷ fs) false
-  adds_none e =
-      record {
-        long = refl;
-        rest = λ k h. refl;
-        decides = λ fs h. sym e ∙ decides fs h.day;
-        day = λ t. absurd (false≢true t);
-      }
-
 -- ---- the facts of a position
--- an opposite that was added is in the new table
-pub passes-added : (r s : List ℕ) (base to n : ℕ) (g : Net) (j : ℕ) (ok : Bool) → to + n * n ≤ length r → Adds r s base to n (λ fs. arc g (opposite_from + j) ∷ fs) ok → Passes r s base to n g j (record { ok = ok; base = to })
-passes-added r s base to n g j ok l a =
-    record {
-      long = a.long;
-      rest = a.rest;
-      before = here refl;
-      room = omega (arith, a.long);
-      fails = λ e fs h. sym (a.decides fs h) ∙ e;
-      day = a.day;
-    }
-
 -- an alternative that does not fit by itself fits in no position
 pub takes_none : (r : List ℕ) (from to n : ℕ) (g : Net) (first last : ℕ) (ok : Bool) → ((fs : List Alternative) → DayOf n fs (table_at r from n) → ok ≡ sound (arc g last ∷ fs)) → ok ≡ false → Adds r r from to n (taken g first last) false
 takes_none r from to n g first last ok decides e =
@@ -93,26 +70,22 @@ module _ (r : List ℕ) (from to n : ℕ) (g : Net) (first : ℕ) where
       }
 
   module _ (s : List ℕ) (j base : ℕ) (t : Taking r s from to n g first j base) where
-    -- the table is still the day of some facts
-    pub taking-held : Held r from n → Held s base n
-    taking-held h = record { fs = passed g first (j - first) h.fs; holds = t.day h.fs h.holds }
-
-    pub taking-more : (z : List ℕ) (p : Passed) → first ≤ j → p.ok ≡ true → Passes s z base to n g j p → Taking r z from to n g first (j + 1) p.base
-    taking-more z p l ok a =
+    pub taking-more : (z : List ℕ) {p : Option ℕ} (with : ℕ) → first ≤ j → p ≡ Some with → Passes s z base to n g j p → Taking r z from to n g first (j + 1) with
+    taking-more z with l e a =
         record {
           long = a.long ∙ t.long;
           rest = λ k h. a.rest k h ∙ t.rest k h;
-          before = a.before;
-          day = λ fs h. subst (Holds z p.base n n) (passed-more g first j fs l) (a.day ok (passed g first (j - first) fs) (t.day fs h));
+          before = a.before with e;
+          day = λ fs h. subst (Holds z with n n) (passed-more g first j fs l) (a.day with e (passed g first (j - first) fs) (t.day fs h));
         }
 
-    pub taking-fails : (z : List ℕ) (last : ℕ) (p : Passed) → first ≤ j → j < last → p.ok ≡ false → Passes s z base to n g j p → Adds r z from to n (taken g first last) false
-    taking-fails z last p l m ok a =
+    pub taking-fails : (z : List ℕ) (last : ℕ) {p : Option ℕ} → first ≤ j → j < last → p ≡ None → Passes s z base to n g j p → Adds r z from to n (taken g first last) false
+    taking-fails z last l m e a =
         record {
           long = a.long ∙ t.long;
           rest = λ k h. a.rest k h ∙ t.rest k h;
-          decides = λ fs h. sym (unsound-taken g first j last fs l m (a.fails ok (passed g first (j - first) fs) (t.day fs h)));
-          day = λ e. absurd (false≢true e);
+          decides = λ fs h. sym (unsound-taken g first j last fs l m (a.fails e (passed g first (j - first) fs) (t.day fs h)));
+          day = λ q. absurd (false≢true q);
         }
 
     pub taking-ends : (z : List ℕ) (ok : Bool) → Adds s z base to n (λ fs. arc g j ∷ fs) ok → Adds r z from to n (taken g first j) ok

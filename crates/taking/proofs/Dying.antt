@@ -1,6 +1,6 @@
 -- Whether a clause of arcs is dead, arc by arc, all of them looked at. Assumes nothing.
 use mathlib.Core.Path.{◌≡◌, sym, ap, ◌∙◌}
-use mathlib.Core.Bool.{Bool, true, false, cond, not}
+use mathlib.Core.Bool.{Bool, true, false, cond, not, ◌||◌}
 use mathlib.Core.List.{List, ◌∷◌}
 use Prim.Native.Nat.{ℕ, ◌+◌, ◌-◌, ◌<◌, ◌≤◌}
 use Rattle.meaning.specs.Problem.{Alternative}
@@ -24,16 +24,14 @@ module _ (fs : List Alternative) (g : Net) (j end : ℕ) where
 
   -- whether all arcs are dead, once those before j have been looked at: no where one was alive, and else what those from j on say
   module _ (all alive : Bool) (so_far : cond alive false (dead sound fs (arcs_from g j (end - j))) ≡ all) where
-    module _ (l : j < end) (ok : Bool) (decides : ok ≡ sound (arc g j ∷ fs)) where
-      pub alive-yes : ok ≡ true → false ≡ all
-      alive-yes e = go alive so_far
-        where
-          go : (b : Bool) → cond b false (dead sound fs (arcs_from g j (end - j))) ≡ all → false ≡ all
-          go true h = h
-          go false h = dead-found l (sym e ∙ decides) ∙ h
-
-      pub alive-no : ok ≡ false → cond alive false (dead sound fs (arcs_from g (j + 1) (end - (j + 1)))) ≡ all
-      alive-no e = ap (λ (b : Bool). cond alive false b) (dead-step l (sym e ∙ decides)) ∙ so_far
+    -- one arc more: alive where it was, or where this arc has a timetable
+    pub alive-more : j < end → (ok : Bool) → ok ≡ sound (arc g j ∷ fs) → cond (alive || ok) false (dead sound fs (arcs_from g (j + 1) (end - (j + 1)))) ≡ all
+    alive-more l ok decides = go alive ok decides so_far
+      where
+        go : (b t : Bool) → t ≡ sound (arc g j ∷ fs) → cond b false (dead sound fs (arcs_from g j (end - j))) ≡ all → cond (b || t) false (dead sound fs (arcs_from g (j + 1) (end - (j + 1)))) ≡ all
+        go true t e h = h
+        go false true e h = dead-found l e ∙ h
+        go false false e h = dead-step l e ∙ h
 
     pub alive-end : end ≤ j → not alive ≡ all
     alive-end l = go alive so_far
@@ -41,7 +39,3 @@ module _ (fs : List Alternative) (g : Net) (j end : ℕ) where
         go : (b : Bool) → cond b false (dead sound fs (arcs_from g j (end - j))) ≡ all → not b ≡ all
         go true h = h
         go false h = dead_end l ∙ h
-
--- after a branch that may have set what was alive
-pub alive-then : (fs : List Alternative) (g : Net) (j end : ℕ) (all : Bool) {alive b : Bool} → alive ≡ b → cond b false (dead sound fs (arcs_from g j (end - j))) ≡ all → cond alive false (dead sound fs (arcs_from g j (end - j))) ≡ all
-alive-then fs g j end all e h = ap (λ (x : Bool). cond x false (dead sound fs (arcs_from g j (end - j)))) e ∙ h

@@ -14,7 +14,7 @@ use Rattle.meaning.specs.Search.{taking}
 use Rattle.meaning.proofs.Deciding.{sound-decides}
 use Rattle.problem.specs.declared.Problem.{Problem}
 use Rattle.problem.specs.Arcs.{Net, at, arc, arcs_from}
-use Rattle.problem.specs.Laid.{arcs, Laid}
+use Rattle.problem.specs.Laid.{arcs}
 use Rattle.taking.specs.Taking.{passed, taken}
 
 -- ---- more facts are no sounder
@@ -68,12 +68,12 @@ module _ (g : Net) where
 
 -- ---- the facts of a position
 -- as the meaning takes them: it goes through the clause from the front, and puts each opposite before those so far
-module _ (p : Problem) (laid : Laid p) where
+module _ (p : Problem) where
   pub taking-passed : (j s i : ℕ) (fs : List Alternative) → j + s ≤ at p.starts p.m → i < s → taking i (arcs_from (arcs p) j s) fs ≡ arc (arcs p) (j + i) ∷ passed (arcs p) j i fs
   unfolding arcs_from passed
   taking-passed j zero i fs h l = absurd (not-suc-le-zero l)
   taking-passed j (suc s) zero fs h l = ap (λ (k : ℕ). arc (arcs p) k ∷ fs) (let e : j ≡ j + 0 = omega arith in e)
   taking-passed j (suc s) (suc i) fs h l =
-      ap (λ (a : Alternative). taking i (arcs_from (arcs p) (suc j) s) (a ∷ fs)) (laid.opposites j (omega arith))
+      ap (λ (a : Alternative). taking i (arcs_from (arcs p) (suc j) s) (a ∷ fs)) (p.laid.opposites j (omega arith))
       ∙ taking-passed (suc j) s i (arc (arcs p) (opposite_from + j) ∷ fs) (omega arith) (le_of_suc-le-suc l)
       ∙ ap₂ (λ (k : ℕ) (l : List Alternative). arc (arcs p) k ∷ l) (let e : suc j + i ≡ j + suc i = omega arith in e) (passed-front (arcs p) j i fs)

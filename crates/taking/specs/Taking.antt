@@ -1,12 +1,11 @@
 -- The facts of a position of a clause, added to a day that lies in a lent list, n rows of n entries from a place on. Definitions only.
-use Rattle.std.specs.Prelude.{◌≡◌, Bool, true, false, List, ◌∷◌, ℕ, zero, suc, ◌+◌, ◌-◌, ◌*◌, ◌<◌, ◌≤◌, length}
+use Rattle.std.specs.Prelude.{◌≡◌, Bool, true, false, Option, None, Some, List, ◌∷◌, ℕ, zero, suc, ◌+◌, ◌-◌, ◌*◌, ◌<◌, ◌≤◌, length}
 use Rattle.meaning.specs.Limits.{opposite_from}
 use Rattle.meaning.specs.Problem.{Alternative, opposite}
 use Rattle.meaning.specs.Decision.{sound}
 use Rattle.problem.specs.Arcs.{Net, at, arc, Arc}
 use Rattle.distances.specs.Numbers.{Holds}
 use Rattle.distances.specs.Rows.{Beside}
-use Rattle.taking.specs.declared.Passed.{Passed}
 
 -- ---- the facts
 -- the facts, and before them the opposites of i arcs from number j on, the last one foremost
@@ -44,10 +43,10 @@ pub record Adds (r s : List ℕ) (from to n : ℕ) (more : List Alternative → 
   pub day : ok ≡ true → (fs : List Alternative) → Holds r from n n fs → Holds s to n n (more fs)
 
 -- the opposite of alternative j, where it is sound, was added to the table `base` or is implied by its facts; the table with it is the one at `to`, or lies before it
-pub record Passes (r s : List ℕ) (base to n : ℕ) (g : Net) (j : ℕ) (p : Passed) : Type 0 where
+pub record Passes (r s : List ℕ) (base to n : ℕ) (g : Net) (j : ℕ) (passed : Option ℕ) : Type 0 where
   pub long : length s ≡ length r
   pub rest : (k : ℕ) → Beside k to (n * n) → at s k ≡ at r k
-  pub before : Before p.base to n
-  pub room : p.base + n * n ≤ length s
-  pub fails : p.ok ≡ false → (fs : List Alternative) → Holds r base n n fs → sound (arc g (opposite_from + j) ∷ fs) ≡ false
-  pub day : p.ok ≡ true → (fs : List Alternative) → Holds r base n n fs → Holds s p.base n n (arc g (opposite_from + j) ∷ fs)
+  pub before : (with : ℕ) → passed ≡ Some with → Before with to n
+  pub room : (with : ℕ) → passed ≡ Some with → with + n * n ≤ length s
+  pub fails : passed ≡ None → (fs : List Alternative) → Holds r base n n fs → sound (arc g (opposite_from + j) ∷ fs) ≡ false
+  pub day : (with : ℕ) → passed ≡ Some with → (fs : List Alternative) → Holds r base n n fs → Holds s with n n (arc g (opposite_from + j) ∷ fs)

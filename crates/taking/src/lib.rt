@@ -7,89 +7,77 @@ ghost use Rattle.meaning.specs.Limits.{most_events, most_alternatives, opposite_
 ghost use Rattle.meaning.specs.Problem.{Alternative, opposite};
 ghost use Rattle.meaning.specs.Decision.{sound};
 ghost use Rattle.meaning.specs.Search.{dead};
-ghost use Rattle.problem.specs.Arcs.{net, arc, Arc, arcs_from};
+ghost use Rattle.problem.specs.Arcs.{bias, net, head, tail, bound, arc, Arc, arcs_from};
 ghost use Rattle.distances.specs.Distances.{DayOf};
 ghost use Rattle.distances.specs.Numbers.{table_at};
 ghost use Rattle.taking.specs.Taking.{taken, Before, Adds, Arcs, Held, Passes};
 
-use distances::{extend, fits_with};
-use problem::{ALTERNATIVES, ARCS};
+use distances::{Fact, Grid, extend, fits_with};
+use problem::{ALTERNATIVES, Edge};
 
 // The number by which an opposite follows its alternative.
 const OPPOSITE_FROM: usize = ALTERNATIVES;
 
-// Whether the opposites so far are sound, and where the table lies that has them.
-#[derive(Clone, Copy)]
-struct Passed {
-    ok: bool,
-    base: usize,
+// The table of n rows of n entries from place `base` on.
+fn table(base: usize, n: usize) -> Grid
+    ensures { (result.base ≡ base) × (result.w ≡ n) × (result.n ≡ n) }
+{
+    Grid { base, w: n, n }
 }
 
-// A byte as an index.
-pub fn wide(x: u8) -> usize
-    ensures { result ≡ x }
+// Arc j as a fact.
+fn fact(arcs: &[Edge], j: usize) -> Fact
+    requires { (j < length arcs.now) × (bound (net arcs.now) j < 2 * bias) }
+    ensures { (result.x ≡ head (net arcs.now) j) × (result.y ≡ tail (net arcs.now) j) × (result.b ≡ bound (net arcs.now) j) }
 {
-    x as usize
-}
-
-// Whether arc j has a timetable with the facts of the table at `base`.
-fn fits(
-    days: &[u32],
-    base: usize,
-    n: usize,
-    xs: &[u8; ARCS],
-    ys: &[u8; ARCS],
-    bs: &[u32; ARCS],
-    j: usize,
-) -> bool
-    requires { (base + n * n ≤ length days.now) × Arc (net xs.now ys.now bs.now) n j × (j < 2 * most_alternatives) × Held days.now base n }
-    ensures { (fs : List Alternative) → DayOf n fs (table_at days.now base n) → result ≡ sound (arc (net xs.now ys.now bs.now) j ∷ fs) }
-{
-    fits_with(days, base, n, n, wide(xs[j]), wide(ys[j]), bs[j])
-}
-
-// The table at `to` becomes the table at `from` with arc j, where that has a timetable with its facts; whether it has.
-fn adds(
-    days: &mut [u32],
-    from: usize,
-    to: usize,
-    n: usize,
-    xs: &[u8; ARCS],
-    ys: &[u8; ARCS],
-    bs: &[u32; ARCS],
-    j: usize,
-) -> bool
-    requires { (from + n * n ≤ length days.old) × (to + n * n ≤ length days.old) × (n ≤ most_events) × Arc (net xs.now ys.now bs.now) n j × Before from to n × (j < 2 * most_alternatives) × Held days.old from n }
-    ensures { Adds days.old days.new from to n (λ fs. arc (net xs.now ys.now bs.now) j ∷ fs) result }
-{
-    if fits(days, from, n, xs, ys, bs, j) {
-        extend(days, from, to, n, n, wide(xs[j]), wide(ys[j]), bs[j]);
-        true
-    } else {
-        false
+    let arc = arcs[j];
+    Fact {
+        x: arc.x as usize,
+        y: arc.y as usize,
+        b: arc.b,
     }
 }
 
+// Whether arc j has a timetable with the facts of the table at `base`.
+fn fits(days: &[u32], base: usize, n: usize, arcs: &[Edge], j: usize) -> bool
+    requires { (base + n * n ≤ length days.now) × Arc (net arcs.now) n j × (j < 2 * most_alternatives) × Held days.now base n }
+    ensures { (fs : List Alternative) → DayOf n fs (table_at days.now base n) → result ≡ sound (arc (net arcs.now) j ∷ fs) }
+{
+    fits_with(days, table(base, n), fact(arcs, j))
+}
+
+// The table at `to` becomes the table at `from` with arc j, where that has a timetable with its facts; whether it has.
+fn adds(days: &mut [u32], from: usize, to: usize, n: usize, arcs: &[Edge], j: usize) -> bool
+    requires { (from + n * n ≤ length days.old) × (to + n * n ≤ length days.old) × (n ≤ most_events) × Arc (net arcs.now) n j × Before from to n × (j < 2 * most_alternatives) × Held days.old from n }
+    ensures { Adds days.old days.new from to n (λ fs. arc (net arcs.now) j ∷ fs) result }
+{
+    if !fits(days, from, n, arcs, j) {
+        return false;
+    }
+    extend(days, table(from, n), to, fact(arcs, j));
+    true
+}
+
 // The opposite of alternative j is added to the table at `base`, which is then the one at `to`; where the alternative is unsound, its opposite
-// is implied, and nothing changes.
+// is implied, and nothing changes. Where the table lies that has the opposite, unless that is unsound.
 fn passes(
     days: &mut [u32],
     base: usize,
     to: usize,
     n: usize,
-    xs: &[u8; ARCS],
-    ys: &[u8; ARCS],
-    bs: &[u32; ARCS],
+    arcs: &[Edge],
     j: usize,
-) -> Passed
-    requires { (base + n * n ≤ length days.old) × (to + n * n ≤ length days.old) × (n ≤ most_events) × Arc (net xs.now ys.now bs.now) n j × Arc (net xs.now ys.now bs.now) n (opposite_from + j) × (opposite (arc (net xs.now ys.now bs.now) j) ≡ arc (net xs.now ys.now bs.now) (opposite_from + j)) × (j < most_alternatives) × Before base to n × Held days.old base n }
-    ensures { Passes days.old days.new base to n (net xs.now ys.now bs.now) j result }
+) -> Option<usize>
+    requires { (base + n * n ≤ length days.old) × (to + n * n ≤ length days.old) × (n ≤ most_events) × Arc (net arcs.now) n j × Arc (net arcs.now) n (opposite_from + j) × (opposite (arc (net arcs.now) j) ≡ arc (net arcs.now) (opposite_from + j)) × (j < most_alternatives) × Before base to n × Held days.old base n }
+    ensures { Passes days.old days.new base to n (net arcs.now) j result }
 {
-    if fits(days, base, n, xs, ys, bs, j) {
-        let ok = adds(days, base, to, n, xs, ys, bs, OPPOSITE_FROM + j);
-        Passed { ok, base: to }
+    if !fits(days, base, n, arcs, j) {
+        return Some(base);
+    }
+    if adds(days, base, to, n, arcs, OPPOSITE_FROM + j) {
+        Some(to)
     } else {
-        Passed { ok: true, base }
+        None
     }
 }
 
@@ -100,53 +88,35 @@ pub fn takes(
     from: usize,
     to: usize,
     n: usize,
-    xs: &[u8; ARCS],
-    ys: &[u8; ARCS],
-    bs: &[u32; ARCS],
+    arcs: &[Edge],
     first: usize,
     last: usize,
 ) -> bool
-    requires { (to + n * n ≤ length days.old) × (from + n * n ≤ to) × (n ≤ most_events) × (first ≤ last) × Arcs (net xs.now ys.now bs.now) n last × Held days.old from n }
-    ensures { Adds days.old days.new from to n (taken (net xs.now ys.now bs.now) first last) result }
+    requires { (to + n * n ≤ length days.old) × (from + n * n ≤ to) × (n ≤ most_events) × (first ≤ last) × Arcs (net arcs.now) n last × Held days.old from n }
+    ensures { Adds days.old days.new from to n (taken (net arcs.now) first last) result }
 {
-    if !fits(days, from, n, xs, ys, bs, last) {
+    if !fits(days, from, n, arcs, last) {
         return false;
     }
     let mut base = from;
-    let mut j = first;
-    while j < last {
-        let r = passes(days, base, to, n, xs, ys, bs, j);
-        if !r.ok {
+    for j in first..last {
+        let Some(with) = passes(days, base, to, n, arcs, j) else {
             return false;
-        }
-        base = r.base;
-        j += 1;
+        };
+        base = with;
     }
-    adds(days, base, to, n, xs, ys, bs, last)
+    adds(days, base, to, n, arcs, last)
 }
 
 // Whether no arc from number `from` up to, and without, `end` has a timetable with the facts of the table at `base`. All are looked at: to stop
 // at the first that has one costs more than it saves.
-pub fn is_dead(
-    days: &[u32],
-    base: usize,
-    n: usize,
-    xs: &[u8; ARCS],
-    ys: &[u8; ARCS],
-    bs: &[u32; ARCS],
-    from: usize,
-    end: usize,
-) -> bool
-    requires { (base + n * n ≤ length days.now) × (from ≤ end) × (end ≤ most_alternatives) × ((j : ℕ) → j < end → Arc (net xs.now ys.now bs.now) n j) × Held days.now base n }
-    ensures { (fs : List Alternative) → DayOf n fs (table_at days.now base n) → result ≡ dead sound fs (arcs_from (net xs.now ys.now bs.now) from (end - from)) }
+pub fn is_dead(days: &[u32], base: usize, n: usize, arcs: &[Edge], from: usize, end: usize) -> bool
+    requires { (base + n * n ≤ length days.now) × (from ≤ end) × (end ≤ most_alternatives) × ((j : ℕ) → j < end → Arc (net arcs.now) n j) × Held days.now base n }
+    ensures { (fs : List Alternative) → DayOf n fs (table_at days.now base n) → result ≡ dead sound fs (arcs_from (net arcs.now) from (end - from)) }
 {
     let mut alive = false;
-    let mut j = from;
-    while j < end {
-        if fits(days, base, n, xs, ys, bs, j) {
-            alive = true;
-        }
-        j += 1;
+    for j in from..end {
+        alive |= fits(days, base, n, arcs, j);
     }
     !alive
 }

@@ -1,27 +1,40 @@
 -- `slider::bound_of` meets its contract. Assumes nothing.
-use mathlib.Core.Path.{sym, ap, ◌∙◌, subst}
+use mathlib.Core.Path.{◌≡◌, refl, sym, ap, ◌∙◌}
 use mathlib.Core.Bool.{Bool}
-use Prim.Native.Nat.{◌≤◌}
-use Rattle.slider.specs.declared.Split.{Split}
+use native.Mathlib.Omega.{arith}
+use Rattle.std.specs.Prelude.{None, Some}
+use Rattle.std.proofs.lemmas.Result.{err_from_is_err_and}
+use denote.Enum.Bare.{sameb}
+use Rattle.slider.specs.contracts.Use.{the_type}
+use Rattle.slider.specs.declared.Use.{Use}
+use Rattle.slider.specs.declared.Use.TheVariants.{AtMost, AtLeast}
+use Rattle.slider.specs.declared.Refusal.TheVariants.{Unread}
 use Rattle.slider.specs.Slider.{told}
-use Rattle.slider.specs.Steps.{cap, rounds_up}
-use Rattle.slider.proofs.Bounds.{parts_give, split-gives, not-finite-unread, whole_le}
+use Rattle.slider.specs.Steps.{split_of, rounds_up}
+use Rattle.slider.proofs.Bounds.{parts_give, split-gives, no-parts-unread, whole_le}
 use Rattle.slider.proofs.bound_of.Goals as goal
 
-pub limited-requires : goal.limited-requires
-limited-requires c = subst (λ (p : Split). p.whole ≤ cap) (sym c.parts-p.ensures) (whole_le 0 c.args.v)
+up-is : (u : Use) → sameb the_type u AtLeast ≡ rounds_up u
+up-is AtMost = refl
+up-is AtLeast = refl
 
-pub returns-then-p : goal.returns-then-p
-returns-then-p c =
-    let a = c.args in
-    let split-is = c.parts-p.ensures in
-    c.limited.ensures
-    ∙ ap told
-    (ap (λ (up : Bool). parts_give up c.parts-p.result) c.rounds_up-up.ensures
-    ∙ ap (parts_give (rounds_up a.used)) split-is
-    ∙ split-gives a.used a.v (ap (λ (p : Split). p.finite) (sym split-is) ∙ c.if-p.true))
+pub returns-in_err-p : goal.returns-in_err-p
+returns-in_err-p c =
+    let none : split_of 0 c.args.v ≡ None = grind arith in
+    let e = err_from_is_err_and c.from_residual.result c.from_residual.ensures.1 in
+    let unread : c.in_err-p.field-0.0 ≡ Unread = grind arith in
+    rw (e.1, e.2, unread) (sym (ap told (no-parts-unread c.args.used c.args.v none)))
+
+pub limited-requires : goal.limited-requires
+limited-requires c =
+    let parts_are : split_of 0 c.args.v ≡ Some c.in_ok-p.p = grind arith in
+    whole_le 0 c.args.v c.in_ok-p.p parts_are
 
 pub returns : goal.returns
 returns c =
     let a = c.args in
-    ap told (sym (not-finite-unread a.used a.v (ap (λ (p : Split). p.finite) (sym c.parts-p.ensures) ∙ c.if-p.false)))
+    let parts_are : split_of 0 a.v ≡ Some c.in_ok-p.p = grind arith in
+    c.limited.ensures
+    ∙ ap told
+    (ap (λ (up : Bool). parts_give up c.in_ok-p.p) (c.eq-up.ensures ∙ up-is a.used)
+    ∙ split-gives a.used a.v c.in_ok-p.p parts_are)

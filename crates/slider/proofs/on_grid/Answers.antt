@@ -1,65 +1,51 @@
 -- `slider::on_grid` meets its contract. Assumes nothing.
-use mathlib.Core.Path.{◌≡◌, refl, sym, ap, ◌∙◌}
-use mathlib.Core.Bool.{Bool, true, false}
-use Prim.Native.Nat.{ℕ, ◌<◌, ◌^◌}
-use lib.Dec.{ltb, eqb}
-use lib.Ieee.{Float}
+use mathlib.Core.Path.{◌≡◌, sym, ap, ◌∙◌}
+use mathlib.Core.Bool.{Bool, true, false, ◌||◌}
+use native.Mathlib.Omega.{arith}
+use lib.Dec.{ltb}
 use borrow.Author.Tests.{lt-ltb, le-ltb}
-use Rattle.slider.specs.declared.Split.{Split}
-use Rattle.slider.specs.Steps.{cap, split_of, is_at}
-use Rattle.slider.specs.Readings.{within, reading, pick}
-use Rattle.slider.proofs.Grid.{test_of, test_of_split, grid-split}
+use Rattle.std.specs.Prelude.{None, Some}
+use Rattle.std.proofs.lemmas.Result.{err_from_is_err_and}
+use Rattle.slider.specs.declared.Refusal.TheVariants.{Unread}
+use Rattle.slider.specs.Steps.{split_of}
+use Rattle.slider.proofs.Grid.{is_below, is_off, refused_if, grid-split, no-parts}
 use Rattle.slider.proofs.on_grid.Goals as goal
+use Rattle.slider.proofs.on_grid.Goals.{then-p-via-then-p, then-p-via-else-p+then-limit-p, then-p-via-else-p+else-limit-p+then-below}
 
--- from the tests to the definition
-from : (both : Bool) (limit j : ℕ) (x : Float) (p : Split) (f k far b n : Bool) → limit < cap → p ≡ split_of j x → p.finite ≡ f → p.cut ≡ k → ltb limit p.whole ≡ far → both ≡ b → p.neg ≡ n
-    → pick f (pick k false (pick far false (pick b true (pick n (eqb p.whole 0) true)))) false ≡ is_at (within both limit (reading (2 ^ j) x))
-from both limit j x p f k far b n L e ef ek ew eb en =
-    let w = p.whole in
-    sym (ap (λ (t : Bool). test_of both limit t p.neg p.cut w) ef
-    ∙ ap (λ (t : Bool). test_of both limit f p.neg t w) ek
-    ∙ ap (λ (t : Bool). pick f (pick k false (pick t false (pick both true (pick p.neg (eqb w 0) true)))) false) ew
-    ∙ ap (λ (t : Bool). pick f (pick k false (pick far false (pick t true (pick p.neg (eqb w 0) true)))) false) eb
-    ∙ ap (λ (t : Bool). pick f (pick k false (pick far false (pick b true (pick t (eqb w 0) true)))) false) en)
-    ∙ ap (test_of_split both limit) e
-    ∙ grid-split both limit j x L
+-- the three tests, one after another
+off-cut : (cut far below : Bool) → cut ≡ true → (cut || (far || below)) ≡ true
+off-cut cut far below h = ap (λ (t : Bool). t || (far || below)) h
 
-pub returns-then-p-2 : goal.returns-then-p-2
-returns-then-p-2 c =
-    let r = c.parts-p in
-    let p = r.result in
-    from c.args.both c.args.limit c.args.j c.args.x p true true (ltb c.args.limit p.whole) c.args.both p.neg c.requires.1 r.ensures c.if-p.true c.if-p-2.true refl refl refl
+off-far : (cut far below : Bool) → cut ≡ false → far ≡ true → (cut || (far || below)) ≡ true
+off-far cut far below h k = ap (λ (t : Bool). t || (far || below)) h ∙ ap (λ (t : Bool). t || below) k
 
-pub returns-then-limit-p : goal.returns-then-limit-p
-returns-then-limit-p c =
-    let r = c.parts-p in
-    let p = r.result in
-    from c.args.both c.args.limit c.args.j c.args.x p true false true c.args.both p.neg c.requires.1 r.ensures c.if-p.true c.if-p-2.false
-    (lt-ltb c.args.limit p.whole c.if-limit-p.true) refl refl
+off-below : (cut far below : Bool) {t : Bool} → cut ≡ false → far ≡ false → below ≡ t → (cut || (far || below)) ≡ t
+off-below cut far below h k b = ap (λ (t : Bool). t || (far || below)) h ∙ ap (λ (t : Bool). t || below) k ∙ b
 
-pub returns-then-both : goal.returns-then-both
-returns-then-both c =
-    let r = c.parts-p in
-    let p = r.result in
-    from c.args.both c.args.limit c.args.j c.args.x p true false false true p.neg c.requires.1 r.ensures c.if-p.true c.if-p-2.false
-    (le-ltb c.args.limit p.whole c.if-limit-p.false) c.if-both.true refl
-
-pub returns-then-p-3 : goal.returns-then-p-3
-returns-then-p-3 c =
-    let r = c.parts-p in
-    let p = r.result in
-    from c.args.both c.args.limit c.args.j c.args.x p true false false false true c.requires.1 r.ensures c.if-p.true c.if-p-2.false
-    (le-ltb c.args.limit p.whole c.if-limit-p.false) c.if-both.false c.if-p-3.true
+pub returns-in_err-p : goal.returns-in_err-p
+returns-in_err-p c =
+    let a = c.args in
+    let none : split_of a.j a.x ≡ None = grind arith in
+    let e = err_from_is_err_and c.from_residual.result c.from_residual.ensures.1 in
+    let unread : c.in_err-p.field-0.0 ≡ Unread = grind arith in
+    rw (e.1, e.2, unread) (sym (no-parts a.both a.limit a.j a.x none))
 
 pub returns-then-p : goal.returns-then-p
 returns-then-p c =
-    let r = c.parts-p in
-    let p = r.result in
-    from c.args.both c.args.limit c.args.j c.args.x p true false false false false c.requires.1 r.ensures c.if-p.true c.if-p-2.false
-    (le-ltb c.args.limit p.whole c.if-limit-p.false) c.if-both.false c.if-p-3.false
+    let a = c.args in
+    let p = c.in_ok-p.p in
+    let parts_are : split_of a.j a.x ≡ Some p = grind arith in
+    let off : is_off a.both a.limit p ≡ true = elim c.then-p.branch [
+      | then-p-via-then-p w ↦ off-cut p.cut (ltb a.limit p.whole) (is_below a.both p) w.if-p.true
+      | then-p-via-else-p+then-limit-p w ↦ off-far _ _ _ w.if-p.false (lt-ltb a.limit p.whole w.if-limit-p.true)
+      | then-p-via-else-p+else-limit-p+then-below w ↦ off-below _ _ _ w.if-p.false (le-ltb a.limit p.whole w.if-limit-p.false) w.if-below.true
+    ] in
+    ap refused_if (sym off) ∙ sym (grid-split a.both a.limit a.j a.x p c.requires.1 parts_are)
 
 pub returns : goal.returns
 returns c =
-    let r = c.parts-p in
-    let p = r.result in
-    from c.args.both c.args.limit c.args.j c.args.x p false p.cut (ltb c.args.limit p.whole) c.args.both p.neg c.requires.1 r.ensures c.if-p.false refl refl refl refl
+    let a = c.args in
+    let p = c.in_ok-p.p in
+    let parts_are : split_of a.j a.x ≡ Some p = grind arith in
+    let on : is_off a.both a.limit p ≡ false = off-below _ _ _ c.if-p.false (le-ltb a.limit p.whole c.if-limit-p.false) c.if-below.false in
+    ap refused_if (sym on) ∙ sym (grid-split a.both a.limit a.j a.x p c.requires.1 parts_are)

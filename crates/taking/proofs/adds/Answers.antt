@@ -1,38 +1,29 @@
 -- `taking::adds` meets its contract: the arc is added where it was found to fit. Assumes nothing.
-use Prim.Native.Nat.{◌<◌}
-use native.Mathlib.Omega.{arith}
-use Rattle.problem.specs.Arcs.{net, arc, bound}
+use mathlib.Core.Path.{refl}
+use Rattle.problem.specs.Arcs.{net, head, tail, bound, arc}
 use Rattle.taking.proofs.Lying.{arc-stands}
-use Rattle.taking.proofs.Adding.{room_for, adds_one, adds_none}
+use Rattle.taking.proofs.Adding.{room_for, adds_one}
 use Rattle.taking.proofs.adds.Goals as goal
 
 pub extend-requires : goal.extend-requires
 extend-requires c =
-    let y = c.wide-then-fits in
-    let x = c.wide in
-    let g = net c.args.xs.now c.args.ys.now c.args.bs.now in
+    let g = net c.args.arcs.now in
     let j = c.args.j in
-    let l : x.result < c.args.n = omega (arith, x.ensures, c.requires.3.in_head) in
-    let m : y.result < c.args.n = omega (arith, y.ensures, c.requires.3.in_tail) in (
+    let a = c.requires.3 in
+    rw (c.table.ensures.0, c.table.ensures.1, c.table.ensures.2, c.fact.ensures.0, c.fact.ensures.1, c.fact.ensures.2) (
       c.requires.0,
       c.requires.1,
-      omega arith,
-      l,
-      m,
+      a.in_head,
+      a.in_tail,
       c.requires.2,
-      c.requires.3.small,
-      room_for c.args.days.now c.args.from c.args.to c.args.n (arc g j) c.fits.result c.fits.ensures c.if-fits.true x.result y.result (bound g j) (arc-stands g j x.result y.result x.ensures y.ensures) l m c.requires.6 c.requires.4,
+      room_for c.args.days.now c.args.from c.args.to c.args.n (arc g j) c.fits.result c.fits.ensures c.if-not-fits.false (head g j) (tail g j) (bound g j) (arc-stands g j (head g j) (tail g j) refl refl) a.in_head a.in_tail c.requires.6 c.requires.4,
     )
 
-pub returns-then-fits : goal.returns-then-fits
-returns-then-fits c =
-    let y = c.wide-then-fits in
-    let x = c.wide in
-    let g = net c.args.xs.now c.args.ys.now c.args.bs.now in
+pub returns : goal.returns
+returns c =
+    let g = net c.args.arcs.now in
     let j = c.args.j in
-    adds_one c.args.days.now c.args.from c.args.to c.args.n (arc g j) c.fits.result c.fits.ensures c.if-fits.true x.result y.result (bound g j) c.extend.new.s c.extend.ensures.numbers
-    (λ fs. c.extend.ensures.day fs (arc g j) (arc-stands g j x.result y.result x.ensures y.ensures))
-
-pub returns-else-fits : goal.returns-else-fits
-returns-else-fits c =
-    adds_none c.args.days.now c.args.from c.args.to c.args.n (arc (net c.args.xs.now c.args.ys.now c.args.bs.now) c.args.j) c.fits.result c.fits.ensures c.if-fits.false
+    let extended = rw (c.table.ensures.0, c.table.ensures.1, c.table.ensures.2, c.fact.ensures.0, c.fact.ensures.1, c.fact.ensures.2) at c.extend.ensures.numbers in
+    let day = rw (c.table.ensures.0, c.table.ensures.1, c.table.ensures.2, c.fact.ensures.0, c.fact.ensures.1, c.fact.ensures.2) at c.extend.ensures.day in
+    adds_one c.args.days.now c.args.from c.args.to c.args.n (arc g j) c.fits.result c.fits.ensures c.if-not-fits.false (head g j) (tail g j) (bound g j) c.extend.new.s extended
+    (λ fs. day fs (arc g j) (arc-stands g j (head g j) (tail g j) refl refl))

@@ -2,7 +2,7 @@
 use mathlib.Core.Path.{◌≡◌}
 use mathlib.Core.Bool.{false, cond}
 use mathlib.Core.List.{List}
-use Prim.Native.Nat.{◌-◌, ◌≤◌}
+use Prim.Native.Nat.{◌-◌}
 use Rattle.meaning.specs.Problem.{Alternative}
 use Rattle.meaning.specs.Decision.{sound}
 use Rattle.meaning.specs.Search.{dead}
@@ -12,7 +12,4 @@ use Rattle.distances.specs.Numbers.{table_at}
 use Rattle.taking.proofs.is_dead.Given as goal
 
 abbrev pub invariant-loop-j : goal.invariant-loop-j
-invariant-loop-j l = ((fs : List Alternative) → DayOf l.n fs (table_at l.days l.base l.n) → cond l.alive false (dead sound fs (arcs_from (net l.xs l.ys l.bs) l.j (l.end - l.j))) ≡ dead sound fs (arcs_from (net l.xs l.ys l.bs) l.from (l.end - l.from))) × (l.j ≤ l.end)
-
-abbrev pub decreases-loop-j : goal.decreases-loop-j
-decreases-loop-j l = l.end - l.j
+invariant-loop-j l = (fs : List Alternative) → DayOf l.n fs (table_at l.days l.base l.n) → cond l.alive false (dead sound fs (arcs_from (net l.arcs) l.j (l.end - l.j))) ≡ dead sound fs (arcs_from (net l.arcs) l.from (l.end - l.from))

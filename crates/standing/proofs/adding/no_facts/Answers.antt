@@ -14,6 +14,7 @@ use Rattle.standing.proofs.adding.no_facts.Goals as goal
 pub returns : goal.returns
 unfolding day_with
 returns c =
+    let begun = rw (c.grid.ensures.0, c.grid.ensures.1, c.grid.ensures.2) at c.begin.ensures in
     ap (λ (l : List ℤ). record { n = c.args.n; entries = l })
     (c.entries_of.ensures
-    ∙ list_same (most_events * most_events) _ _ (λ k l. ap entry_of (fresh-place _ _ c.args.n c.requires (λ (k : ℕ) (l : k < most_events * most_events). get_or-replicate (most_events * most_events) k no_way 0 l) c.begin.ensures k l)))
+    ∙ list_same (most_events * most_events) _ _ (λ k l. ap entry_of (fresh-place _ _ c.args.n c.requires (λ (k : ℕ) (l : k < most_events * most_events). get_or-replicate (most_events * most_events) k no_way 0 l) begun k l)))

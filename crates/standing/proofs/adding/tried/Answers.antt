@@ -1,69 +1,66 @@
 -- `tried` meets its contract. Assumes nothing.
-use mathlib.Core.Path.{◌≡◌, refl}
-use Prim.Native.Nat.{ℕ, ◌+◌, ◌*◌}
+use mathlib.Core.Path.{◌≡◌, ap, subst}
+use mathlib.Core.List.{List}
+use Prim.Native.Nat.{ℕ, ◌*◌, ◌<◌}
 use native.Mathlib.Omega.{arith}
 use borrow.Author.Rules.{rules}
-use lib.ListN.{length}
-use Rattle.problem.specs.Laid.{arcs}
-use Rattle.meaning.specs.Limits.{most_events}
-use Rattle.problem.specs.Arcs.{Net, head, tail, bound, arc, at}
+use lib.IntN.{sub_ℕ}
+use lib.ListN.{length, get_or}
+use Rattle.problem.specs.declared.Edge.{Edge}
+use Rattle.problem.specs.Arcs.{bias, no_edge, net, arc, Arc}
+use Rattle.problem.proofs.Knowing.{head-is, tail-is, bound-is, in-edges}
 use Rattle.distances.specs.Numbers.{Stands}
-use Rattle.distances.specs.Rows.{in_place}
-use Rattle.distances.proofs.Numbers.{fits-enough}
 use Rattle.standing.proofs.Making.{tries-unsound, tries-beyond, tries-taken}
 use Rattle.standing.proofs.adding.tried.Goals as goal
 
-pub bounds-p-j : goal.bounds-p-j
-bounds-p-j c = let h = c.requires.1.in-xs in let long : length c.args.p.xs ≡ 128 = search rules in omega arith
-
-pub bounds-p-j-2 : goal.bounds-p-j-2
-bounds-p-j-2 c = let h = c.requires.1.in_ys in let long : length c.args.p.ys ≡ 128 = search rules in omega arith
-
 pub offset_bounds-p-j : goal.offset_bounds-p-j
-offset_bounds-p-j c = let h = c.requires.1.in-bs in let long : length c.args.p.bs ≡ 128 = search rules in omega arith
+offset_bounds-p-j c =
+    let l : c.args.j < length c.args.p.arcs = in-edges _ _ c.requires.1 in
+    let long : length c.args.p.arcs ≡ 128 = search rules in
+    omega arith
 
-pub bounds-p-j-3 : goal.bounds-p-j-3
-bounds-p-j-3 c = let h = c.requires.1.in-bs in let long : length c.args.p.bs ≡ 128 = search rules in omega arith
+-- ---- the arc in numbers
+module _ (edges : List Edge) (n j : ℕ) (a : Arc (net edges) n j) where
+  abbrev edge : Edge
+  edge = get_or edges j no_edge
 
-pub fits_with-requires : goal.fits_with-requires
-fits_with-requires c = (search rules, c.requires.0, c.requires.1.in_head, c.requires.1.in_tail, c.requires.1.small)
+  starts_in : edge.x < n
+  starts_in = subst (λ (k : ℕ). k < n) (head-is edges j) a.in_head
 
--- the arc in numbers
-stands : (g : Net) (j : ℕ) → Stands (head g j) (tail g j) (bound g j) (arc g j)
-stands g j = record { first = refl; second = refl; bound = refl }
+  ends_in : edge.y < n
+  ends_in = subst (λ (k : ℕ). k < n) (tail-is edges j) a.in_tail
+
+  small : edge.b < 2 * bias
+  small = subst (λ (k : ℕ). k < 2 * bias) (bound-is edges j) a.small
+
+  stands : Stands edge.x edge.y edge.b (arc (net edges) j)
+  stands = record { first = head-is edges j; second = tail-is edges j; bound = ap (λ (b : ℕ). sub_ℕ b bias) (bound-is edges j) }
 
 pub returns-then-not-fits_with : goal.returns-then-not-fits_with
 returns-then-not-fits_with c =
-    let g = arcs c.args.p in
-    let j = c.args.j in
-    tries-unsound c.args.s c.args.p.n (head g j) (tail g j) (bound g j) (arc g j) c.requires.1.in_head c.requires.1.in_tail (stands g j) _
-    c.fits_with.ensures.numbers
-    c.if-not-fits_with.true
-
-pub extend-requires : goal.extend-requires
-extend-requires c =
-    let g = arcs c.args.p in
-    let j = c.args.j in (
-      search rules,
-      search rules,
-      c.requires.0,
-      c.requires.1.in_head,
-      c.requires.1.in_tail,
-      c.requires.0,
-      c.requires.1.small,
-      in_place refl (fits-enough (at c.args.s (0 + (head g j * most_events + tail g j))) (bound g j) c.fits_with.ensures.numbers c.if-not-fits_with.false),
-    )
+    let p = c.args.p in
+    let h = c.requires.1 in
+    let e = edge p.arcs p.n c.args.j h in
+    let fits = rw (c.grid-day.ensures.0, c.grid-day.ensures.1) at c.fits_with.ensures.numbers in
+    tries-unsound c.args.numbers p.n e.x e.y e.b (arc (net p.arcs) c.args.j) (starts_in p.arcs p.n c.args.j h) (ends_in p.arcs p.n c.args.j h) (stands p.arcs p.n c.args.j h)
+    fits c.if-not-fits_with.true
 
 pub returns-then-not-all_numbers : goal.returns-then-not-all_numbers
 returns-then-not-all_numbers c =
-    let g = arcs c.args.p in
-    let j = c.args.j in
-    tries-beyond c.args.s c.args.p.n (head g j) (tail g j) (bound g j) (arc g j) c.requires.1.in_head c.requires.1.in_tail (stands g j) c.extend.new.s
-    c.fits_with.ensures.numbers c.if-not-fits_with.false c.all_numbers.ensures c.requires.0 c.requires.1.small c.requires.2 c.requires.3 c.extend.ensures.numbers c.if-not-all_numbers.true
+    let p = c.args.p in
+    let h = c.requires.1 in
+    let e = edge p.arcs p.n c.args.j h in
+    let fits = rw (c.grid-day.ensures.0, c.grid-day.ensures.1) at c.fits_with.ensures.numbers in
+    let extended = rw (c.grid-day.ensures.0, c.grid-day.ensures.1, c.grid-day.ensures.2) at c.extend.ensures.numbers in
+    tries-beyond c.args.numbers p.n e.x e.y e.b (arc (net p.arcs) c.args.j) (starts_in p.arcs p.n c.args.j h) (ends_in p.arcs p.n c.args.j h) (stands p.arcs p.n c.args.j h) c.extend.new.s
+    fits c.if-not-fits_with.false c.all_numbers.ensures c.requires.0 (small p.arcs p.n c.args.j h) c.requires.2 c.requires.3 extended c.if-not-all_numbers.true
 
 pub returns : goal.returns
 returns c =
-    let g = arcs c.args.p in
-    let j = c.args.j in
-    tries-taken c.args.s c.args.p.n (head g j) (tail g j) (bound g j) (arc g j) c.requires.1.in_head c.requires.1.in_tail (stands g j) c.extend.new.s
-    c.fits_with.ensures.numbers c.if-not-fits_with.false c.all_numbers.ensures c.requires.0 c.requires.1.small c.requires.2 c.requires.3 c.extend.ensures.numbers c.if-not-all_numbers.false
+    let p = c.args.p in
+    let h = c.requires.1 in
+    let e = edge p.arcs p.n c.args.j h in
+    let fits = rw (c.grid-day.ensures.0, c.grid-day.ensures.1) at c.fits_with.ensures.numbers in
+    let extended = rw (c.grid-day.ensures.0, c.grid-day.ensures.1, c.grid-day.ensures.2) at c.extend.ensures.numbers in
+    tries-taken c.args.numbers p.n e.x e.y e.b (arc (net p.arcs) c.args.j) (starts_in p.arcs p.n c.args.j h) (ends_in p.arcs p.n c.args.j h) (stands p.arcs p.n c.args.j h) c.extend.new.s
+    fits c.if-not-fits_with.false c.all_numbers.ensures c.requires.0 (small p.arcs p.n c.args.j h) c.requires.2 c.requires.3 extended c.if-not-all_numbers.false

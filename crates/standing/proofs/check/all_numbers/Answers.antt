@@ -1,26 +1,15 @@
 -- `all_numbers` meets its contract. Assumes nothing.
-use mathlib.Core.Path.{◌≡◌, sym, subst}
-use mathlib.Core.Bool.{true}
-use Prim.Native.Nat.{ℕ, ◌*◌}
-use native.Mathlib.Omega.{arith}
-use Rattle.meaning.specs.Limits.{most_events}
-use Rattle.standing.specs.Standing.{every}
-use Rattle.standing.proofs.Every.{every-none, every_more, every-fails}
-use Rattle.standing.proofs.check.all_numbers.Invariants.{each}
+use mathlib.Core.Path.{◌≡◌, refl}
+use mathlib.Core.Bool.{true, false}
+use Prim.Native.Nat.{ℕ}
+use borrow.Author.Rules.{rules}
+use Rattle.std.proofs.lemmas.Iterator.{cases_from_all, YieldsList-from_slice}
+use Rattle.distances.specs.Numbers.{distance}
+use Rattle.standing.specs.Standing.{in_range}
+use Rattle.standing.proofs.Every.{every-of}
 use Rattle.standing.proofs.check.all_numbers.Goals as goal
-
-pub loop-k-init : goal.loop-k-init
-loop-k-init c = (omega arith, every-none (each c.args.s.now))
-
-pub returns-then-not-is_number : goal.returns-then-not-is_number
-returns-then-not-is_number c =
-    sym (every-fails (most_events * most_events) (each c.args.s.now) c.loop-k.k (omega arith) c.is_number.ensures c.if-not-is_number.true)
-
-pub loop-k-preserved : goal.loop-k-preserved
-loop-k-preserved c =
-    (omega arith, every_more (each c.args.s.now) c.loop-k.k c.loop-k.invariant.1 c.is_number.ensures c.if-not-is_number.false)
 
 pub returns : goal.returns
 returns c =
-    let q : c.loop-k.k ≡ most_events * most_events = omega arith in
-    sym (subst (λ (k : ℕ). every k (each c.args.s.now) ≡ true) q c.loop-k.invariant.1)
+    every-of (λ (e : ℕ). in_range (distance e)) c.args.s.now 0 _ _ _ c.requires (λ k l. refl)
+    (cases_from_all _ _ _ (λ (e : ℕ). in_range (distance e) ≡ true) (λ (e : ℕ). in_range (distance e) ≡ false) c.all.ensures.ran (YieldsList-from_slice c.args.s.now cc) (λ x q k. search rules) (λ x q k. search rules))

@@ -1,7 +1,7 @@
 -- `numbers_of` meets its contract. Assumes nothing.
 use mathlib.Core.Path.{◌≡◌}
 use mathlib.Core.List.{List}
-use Prim.Native.Nat.{ℕ, ◌*◌, ◌-◌, ◌<◌, ◌≤◌}
+use Prim.Native.Nat.{ℕ, ◌*◌, ◌<◌}
 use lib.IntN.{ℤ}
 use lib.ListN.{length, get_or}
 use Rattle.meaning.specs.Limits.{most_events}
@@ -14,7 +14,4 @@ abbrev pub number : List ℤ → ℕ → ℕ
 number entries k = number_of (said (get_or entries k no_entry))
 
 abbrev pub invariant-loop-k : goal.invariant-loop-k
-invariant-loop-k l = (l.k ≤ most_events * most_events) × (length l.numbers ≡ most_events * most_events) × ((i : ℕ) → i < l.k → at l.numbers i ≡ number l.entries i)
-
-abbrev pub decreases-loop-k : goal.decreases-loop-k
-decreases-loop-k l = most_events * most_events - l.k
+invariant-loop-k l = (length l.numbers ≡ most_events * most_events) × ((i : ℕ) → i < l.k → at l.numbers i ≡ number l.entries i)

@@ -31,10 +31,7 @@ fn show(asked: &[u8], said: Verdict) {
 fn show_pair(asked: &[u8], c: i32, d: i32, list: &[u8]) {
     let triples = [0, 1, c, 1, 0, d];
     let counts = [1u32, 2];
-    show(
-        asked,
-        readers::read_reasons(2, &triples[..], &counts[..], list),
-    );
+    show(asked, readers::read_reasons(2, &triples, &counts, list));
 }
 
 // D4's rows with the cycle a, b, and 4 bytes of room more.
@@ -50,51 +47,46 @@ fn rows_of(a: u8, b: u8) -> [u8; ROOM] {
 // D4 and D8: the list that is left, and lists that are wrong in one place.
 fn show_pairs() {
     let good = rows_of(1, 0);
-    show_pair(b"D4", -1, -1, &good[..]);
+    show_pair(b"D4", -1, -1, &good);
     show_pair(b"D4, its rows and no more", -1, -1, &good[0..THREE_ROWS]);
     show_pair(b"D4, a byte short", -1, -1, &good[0..THREE_ROWS - 1]);
     show_pair(b"D4, no list", -1, -1, &good[0..0]);
-    show_pair(b"D8, a cycle of sum 0", 5, -5, &good[..]);
-    show_pair(b"D8 with -6", 5, -6, &good[..]);
+    show_pair(b"D8, a cycle of sum 0", 5, -5, &good);
+    show_pair(b"D8 with -6", 5, -6, &good);
     let turned = rows_of(0, 1);
-    show_pair(b"D4, the cycle from its other arc", -1, -1, &turned[..]);
+    show_pair(b"D4, the cycle from its other arc", -1, -1, &turned);
     let open = rows_of(0, 255);
-    show_pair(b"D4, an arc that leads elsewhere", -1, -1, &open[..]);
+    show_pair(b"D4, an arc that leads elsewhere", -1, -1, &open);
     let foreign = rows_of(0, 65);
-    show_pair(b"D4, an opposite that is no fact", -1, -1, &foreign[..]);
+    show_pair(b"D4, an opposite that is no fact", -1, -1, &foreign);
     let mut onward = rows_of(1, 0);
     onward[ROW] = 240;
-    show_pair(b"D4, onward to the cycle", -1, -1, &onward[..]);
+    show_pair(b"D4, onward to the cycle", -1, -1, &onward);
     onward[2 * ROW] = 240;
     onward[2 * ROW + 1] = 255;
-    show_pair(b"D4, onward where no clause is left", -1, -1, &onward[..]);
+    show_pair(b"D4, onward where no clause is left", -1, -1, &onward);
     let mut late = rows_of(1, 0);
     late[ROOM - 1] = 254;
     show_pair(
         b"D4, another byte than 255 after the reading",
         -1,
         -1,
-        &late[..],
+        &late,
     );
     let mut filled = rows_of(1, 0);
     filled[THREE_ROWS - 1] = 0;
-    show_pair(b"D4, a number after a row's 255s", -1, -1, &filled[..]);
+    show_pair(b"D4, a number after a row's 255s", -1, -1, &filled);
     let mut chosen = rows_of(1, 0);
     chosen[ROW] = 200;
     show_pair(
         b"D4, 200 + d for the clause that is chosen",
         -1,
         -1,
-        &chosen[..],
+        &chosen,
     );
     let mut past = rows_of(1, 0);
     past[ROW] = 202;
-    show_pair(
-        b"D4, 200 + d for a clause that is not there",
-        -1,
-        -1,
-        &past[..],
-    );
+    show_pair(b"D4, 200 + d for a clause that is not there", -1, -1, &past);
 }
 
 // D5 to D7: one event.
@@ -104,38 +96,32 @@ fn show_single() {
     let mut list = [255u8; 2 * ROW];
     list[0] = 200;
     list[ROW] = 0;
-    show(
-        b"D5",
-        readers::read_reasons(1, &loops[..], &one[..], &list[..]),
-    );
+    show(b"D5", readers::read_reasons(1, &loops, &one, &list));
     let times = [0];
     show(
         b"D5, its time",
-        readers::read_timetable(1, &loops[..], &one[..], &times[..]),
+        readers::read_timetable(1, &loops, &one, &times),
     );
     show(
         b"D5, no time",
-        readers::read_timetable(1, &loops[..], &one[..], &times[..0]),
+        readers::read_timetable(1, &loops, &one, &times[..0]),
     );
     let empty = [0u32];
     let mut mark = [255u8; ROW + 4];
     mark[0] = 200;
-    show(
-        b"D7",
-        readers::read_reasons(1, &loops[..0], &empty[..], &mark[..]),
-    );
+    show(b"D7", readers::read_reasons(1, &loops[..0], &empty, &mark));
     mark[0] = 240;
     show(
         b"D7, onward",
-        readers::read_reasons(1, &loops[..0], &empty[..], &mark[..]),
+        readers::read_reasons(1, &loops[..0], &empty, &mark),
     );
     show(
         b"D6, no clauses",
-        readers::read_reasons(3, &loops[..0], &empty[..0], &mark[..]),
+        readers::read_reasons(3, &loops[..0], &empty[..0], &mark),
     );
     show(
         b"D10, an event too many",
-        readers::read_reasons(EVENTS as u32 + 1, &loops[..0], &empty[..0], &mark[..]),
+        readers::read_reasons(EVENTS as u32 + 1, &loops[..0], &empty[..0], &mark),
     );
 }
 
@@ -152,19 +138,19 @@ fn show_opposite() {
     list[THREE_ROWS + 1] = 64;
     show(
         b"an opposite as a fact",
-        readers::read_reasons(2, &triples[..], &counts[..], &list[..]),
+        readers::read_reasons(2, &triples, &counts, &list),
     );
     list[THREE_ROWS + 1] = 0;
     show(
         b"an alternative as a fact where it was passed over",
-        readers::read_reasons(2, &triples[..], &counts[..], &list[..]),
+        readers::read_reasons(2, &triples, &counts, &list),
     );
     list[2 * ROW] = 1;
     list[2 * ROW + 1] = 64;
     list[THREE_ROWS + 1] = 64;
     show(
         b"an opposite as a fact where its alternative was chosen",
-        readers::read_reasons(2, &triples[..], &counts[..], &list[..]),
+        readers::read_reasons(2, &triples, &counts, &list),
     );
 }
 
@@ -173,10 +159,7 @@ fn show_times(asked: &[u8], c: i32, x: i32, y: i32) {
     let triples = [0, 1, c];
     let counts = [1u32];
     let times = [x, y];
-    show(
-        asked,
-        readers::read_timetable(2, &triples[..], &counts[..], &times[..]),
-    );
+    show(asked, readers::read_timetable(2, &triples, &counts, &times));
 }
 
 // D1 and D10: timetables, also at the ends of 32 bits and too short.
@@ -192,11 +175,11 @@ fn show_timetables() {
     let times = [-30];
     show(
         b"D1, one time",
-        readers::read_timetable(2, &triples[..], &counts[..], &times[..]),
+        readers::read_timetable(2, &triples, &counts, &times),
     );
     show(
         b"An event too many, one time",
-        readers::read_timetable(EVENTS as u32 + 1, &triples[..], &counts[..], &times[..]),
+        readers::read_timetable(EVENTS as u32 + 1, &triples, &counts, &times),
     );
 }
 

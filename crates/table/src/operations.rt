@@ -1,258 +1,158 @@
 // The eight requests: each reads the rest of its line from `at` on, calls the planner and writes the reply.
-// Each answers how long the reply is; 0 where the line is malformed.
-ghost use Rattle.std.specs.Prelude.{◌≤◌};
+// Each answers how long the reply is, or none where the line is malformed.
+ghost use Rattle.std.specs.Prelude.{◌≤◌, IfSome, length};
 ghost use Rattle.meaning.specs.Limits.{most_alternatives, most_clauses};
 
-use dialogue::{Listed, Next, float_of, list_signed, number_at};
+use super::Lent;
+use dialogue::{float_of, number_at, read_list};
 use exchange::{
-    Asked, Counted, Head, Lists, asked_at, byte_list, count_at, head_at, lists_at, put_answer,
-    put_bound, put_day, put_length, put_lent, put_panel, put_problem, put_refused, put_refused_at,
-    put_room, put_verdict, signed_list,
+    Head, Lists, asked_at, count_at, head_at, list_at, lists_at, put_answer, put_bound, put_day,
+    put_length, put_lent, put_panel, put_problem, put_refused, put_refused_at, put_room,
+    put_verdict,
 };
 use script::{Script, Written};
 use slider::{Kind, Travel, Use};
 use standing::{Day, ENTRIES};
 
 // The largest unsigned 32-bit number.
-const ANY: u32 = 0xffff_ffff;
+const ANY: u32 = u32::MAX;
 
 // What lent memory is filled with before a call.
 const FILL: u8 = 7;
 
 const FILL_TIME: i32 = 7;
 
-// plan N ALLOWANCE T P R K t1 … tK M e1 … eM
-pub(crate) fn plan(
-    line: &[u8],
-    at: usize,
-    reply: &mut [u8],
-    triples: &mut [i32],
-    counts: &mut [u32],
-    timetable: &mut [i32],
-    picks: &mut [u8],
-    reasons: &mut [u8],
-) -> usize {
-    match head_at(line, at, timetable.len(), picks.len(), reasons.len()) {
-        Head::Of {
-            n,
-            allowance,
-            timetable: t,
-            picks: p,
-            reasons: r,
-            place,
-        } => planned(
-            line,
-            place,
-            n,
-            allowance,
-            reply,
-            triples,
-            counts,
-            &mut timetable[..t],
-            &mut picks[..p],
-            &mut reasons[..r],
-        ),
-        Head::Malformed => 0,
-    }
+// None where a line goes on at `at`.
+fn line_ends(line: &[u8], at: usize) -> Option<()> {
+    if at < line.len() { None } else { Some(()) }
 }
 
-// The rest of a plan's request, with the memory to lend.
-fn planned(
-    line: &[u8],
-    at: usize,
-    n: u32,
-    allowance: u32,
-    reply: &mut [u8],
-    triples: &mut [i32],
-    counts: &mut [u32],
+// The events of a problem and how long its lists are, and the place after them.
+fn problem_at(line: &[u8], at: usize, lent: &mut Lent) -> Option<(u32, Lists, usize)>
+    ensures { IfSome result (λ r. (r.1.triples ≤ 256) × (r.1.counts ≤ 64)) }
+{
+    let (n, place) = number_at(line, at, ANY)?;
+    let (lists, end) = lists_at(line, place, &mut lent.triples, &mut lent.counts)?;
+    Some((n, lists, end))
+}
+
+// plan N ALLOWANCE T P R K t1 … tK M e1 … eM
+pub(crate) fn plan(line: &[u8], at: usize, lent: &mut Lent, reply: &mut [u8]) -> Option<usize> {
+    let (head, place) = head_at(
+        line,
+        at,
+        lent.timetable.len(),
+        lent.picks.len(),
+        lent.reasons.len(),
+    )?;
+    let (lists, end) = lists_at(line, place, &mut lent.triples, &mut lent.counts)?;
+    line_ends(line, end)?;
+    Some(plan_lent(
+        head,
+        &lent.triples[..lists.triples],
+        &lent.counts[..lists.counts],
+        &mut lent.timetable,
+        &mut lent.picks,
+        &mut lent.reasons,
+        reply,
+    ))
+}
+
+// The plan with so much of this memory lent, and its reply. The memory comes one by one: parts of several fields behind one reference are not
+// lent at once in a proof.
+fn plan_lent(
+    head: Head,
+    triples: &[i32],
+    counts: &[u32],
     timetable: &mut [i32],
     picks: &mut [u8],
     reasons: &mut [u8],
-) -> usize {
-    let Lists::Of {
-        triples: k,
-        counts: m,
-        place,
-    } = lists_at(line, at, triples, counts)
-    else {
-        return 0;
-    };
-    if place < line.len() {
-        return 0;
-    }
-    plan_lent(
-        n,
-        &triples[..k],
-        &counts[..m],
-        allowance,
+    reply: &mut [u8],
+) -> usize
+    requires { (head.timetable ≤ length timetable.old) × (head.picks ≤ length picks.old) × (head.reasons ≤ length reasons.old) }
+{
+    let timetable = &mut timetable[..head.timetable];
+    let picks = &mut picks[..head.picks];
+    let reasons = &mut reasons[..head.reasons];
+    timetable.fill(FILL_TIME);
+    picks.fill(FILL);
+    reasons.fill(FILL);
+    let answer = planner::plan(
+        head.n,
+        triples,
+        counts,
+        head.allowance,
         timetable,
         picks,
         reasons,
-        reply,
-    )
-}
-
-// The plan with this memory lent, and its reply.
-fn plan_lent(
-    n: u32,
-    triples: &[i32],
-    counts: &[u32],
-    allowance: u32,
-    timetable: &mut [i32],
-    picks: &mut [u8],
-    reasons: &mut [u8],
-    reply: &mut [u8],
-) -> usize {
-    lent::fill_numbers(timetable, FILL_TIME);
-    lent::fill_bytes(picks, FILL);
-    lent::fill_bytes(reasons, FILL);
-    let answer = planner::plan(n, triples, counts, allowance, timetable, picks, reasons);
+    );
     let to = put_answer(reply, answer);
     put_lent(reply, to, timetable, picks, reasons)
 }
 
 // reasons N K t1 … tK M e1 … eM L b1 … bL
-pub(crate) fn reasons(
-    line: &[u8],
-    at: usize,
-    reply: &mut [u8],
-    triples: &mut [i32],
-    counts: &mut [u32],
-    list: &mut [u8],
-) -> usize {
-    let Next::Of { value: n, place } = number_at(line, at, ANY) else {
-        return 0;
-    };
-    let Lists::Of {
-        triples: k,
-        counts: m,
-        place,
-    } = lists_at(line, place, triples, counts)
-    else {
-        return 0;
-    };
-    let Counted::Of { count, place } = byte_list(line, place, list) else {
-        return 0;
-    };
-    if place < line.len() {
-        return 0;
-    }
-    put_verdict(
-        reply,
-        planner::read_reasons(n, &triples[..k], &counts[..m], &list[..count]),
-    )
+pub(crate) fn reasons(line: &[u8], at: usize, lent: &mut Lent, reply: &mut [u8]) -> Option<usize> {
+    let (n, lists, place) = problem_at(line, at, lent)?;
+    let (count, place) = list_at(line, place, &mut lent.reasons)?;
+    line_ends(line, place)?;
+    let verdict = planner::read_reasons(
+        n,
+        &lent.triples[..lists.triples],
+        &lent.counts[..lists.counts],
+        &lent.reasons[..count],
+    );
+    Some(put_verdict(reply, verdict))
 }
 
 // times N K t1 … tK M e1 … eM L m1 … mL
-pub(crate) fn times(
-    line: &[u8],
-    at: usize,
-    reply: &mut [u8],
-    triples: &mut [i32],
-    counts: &mut [u32],
-    timetable: &mut [i32],
-) -> usize {
-    let Next::Of { value: n, place } = number_at(line, at, ANY) else {
-        return 0;
-    };
-    let Lists::Of {
-        triples: k,
-        counts: m,
-        place,
-    } = lists_at(line, place, triples, counts)
-    else {
-        return 0;
-    };
-    let Counted::Of { count, place } = signed_list(line, place, timetable) else {
-        return 0;
-    };
-    if place < line.len() {
-        return 0;
-    }
-    put_verdict(
-        reply,
-        planner::read_timetable(n, &triples[..k], &counts[..m], &timetable[..count]),
-    )
+pub(crate) fn times(line: &[u8], at: usize, lent: &mut Lent, reply: &mut [u8]) -> Option<usize> {
+    let (n, lists, place) = problem_at(line, at, lent)?;
+    let (count, place) = list_at(line, place, &mut lent.timetable)?;
+    line_ends(line, place)?;
+    let verdict = planner::read_timetable(
+        n,
+        &lent.triples[..lists.triples],
+        &lent.counts[..lists.counts],
+        &lent.timetable[..count],
+    );
+    Some(put_verdict(reply, verdict))
 }
 
 // lamps N K t1 … tK M e1 … eM
-pub(crate) fn lamps(
-    line: &[u8],
-    at: usize,
-    reply: &mut [u8],
-    triples: &mut [i32],
-    counts: &mut [u32],
-) -> usize {
-    let Next::Of { value: n, place } = number_at(line, at, ANY) else {
-        return 0;
-    };
-    let Lists::Of {
-        triples: k,
-        counts: m,
-        place,
-    } = lists_at(line, place, triples, counts)
-    else {
-        return 0;
-    };
-    if place < line.len() {
-        return 0;
-    }
-    put_panel(reply, planner::lamps(n, &triples[..k], &counts[..m]))
+pub(crate) fn lamps(line: &[u8], at: usize, lent: &mut Lent, reply: &mut [u8]) -> Option<usize> {
+    let (n, lists, place) = problem_at(line, at, lent)?;
+    line_ends(line, place)?;
+    let panel = planner::lamps(
+        n,
+        &lent.triples[..lists.triples],
+        &lent.counts[..lists.counts],
+    );
+    Some(put_panel(reply, panel))
 }
 
 // slide KIND A B POSITION USE
-pub(crate) fn slide(line: &[u8], at: usize, reply: &mut [u8]) -> usize {
-    let Next::Of {
-        value: kind,
-        place: p,
-    } = number_at(line, at, 2)
-    else {
-        return 0;
-    };
-    let Next::Of { value: a, place: p } = number_at(line, p, ANY) else {
-        return 0;
-    };
-    let Next::Of { value: b, place: p } = number_at(line, p, ANY) else {
-        return 0;
-    };
-    let Next::Of {
-        value: position,
-        place: p,
-    } = number_at(line, p, ANY)
-    else {
-        return 0;
-    };
-    let Next::Of {
-        value: used,
-        place: p,
-    } = number_at(line, p, 1)
-    else {
-        return 0;
-    };
-    if p < line.len() {
-        return 0;
-    }
-    if 0 < kind {
-        if 0 < b {
-            return 0;
-        }
-    }
-    put_bound(
-        reply,
-        planner::slide(
-            kind_of(kind, float_of(a), float_of(b)),
-            float_of(position),
-            use_of(used),
-        ),
-    )
+pub(crate) fn slide(line: &[u8], at: usize, reply: &mut [u8]) -> Option<usize> {
+    let (kind, place) = number_at(line, at, 2)?;
+    let (a, place) = number_at(line, place, ANY)?;
+    let (b, place) = number_at(line, place, ANY)?;
+    let (position, place) = number_at(line, place, ANY)?;
+    let (used, place) = number_at(line, place, 1)?;
+    line_ends(line, place)?;
+    let kind = kind_of(kind, a, b)?;
+    let bound = planner::slide(kind, float_of(position), use_of(used));
+    Some(put_bound(reply, bound))
 }
 
-// The kind of slider that a number stands for.
-fn kind_of(kind: u32, a: f32, b: f32) -> Kind {
-    match kind {
-        0 => Kind::Span(Travel { low: a, high: b }),
-        1 => Kind::Rate { work: a },
-        _ => Kind::Fixed(a),
+// The kind of slider that a number stands for, with its travel, its work or its number; only a span has both.
+fn kind_of(kind: u32, a: u32, b: u32) -> Option<Kind> {
+    match (kind, b) {
+        (0, _) => Some(Kind::Span(Travel {
+            low: float_of(a),
+            high: float_of(b),
+        })),
+        (1, 0) => Some(Kind::Rate { work: float_of(a) }),
+        (2, 0) => Some(Kind::Fixed(float_of(a))),
+        _ => None,
     }
 }
 
@@ -265,14 +165,11 @@ fn use_of(used: u32) -> Use {
 }
 
 // script L b1 … bL
-pub(crate) fn script(line: &[u8], at: usize, reply: &mut [u8], list: &mut [u8]) -> usize {
-    let Counted::Of { count, place } = byte_list(line, at, list) else {
-        return 0;
-    };
-    if place < line.len() {
-        return 0;
-    }
-    put_script(reply, planner::read_script(&list[..count]))
+pub(crate) fn script(line: &[u8], at: usize, lent: &mut Lent, reply: &mut [u8]) -> Option<usize> {
+    let (count, place) = list_at(line, at, &mut lent.reasons)?;
+    line_ends(line, place)?;
+    let script = planner::read_script(&lent.reasons[..count]);
+    Some(put_script(reply, script))
 }
 
 // What a script gives: the refusal, or the problem.
@@ -293,37 +190,33 @@ fn put_script(reply: &mut [u8], script: Script) -> usize
 }
 
 // write R N K t1 … tK M e1 … eM
-pub(crate) fn write(
-    line: &[u8],
-    at: usize,
-    reply: &mut [u8],
-    triples: &mut [i32],
-    counts: &mut [u32],
-    room: &mut [u8],
-) -> usize {
-    let Counted::Of { count: r, place } = count_at(line, at, room.len()) else {
-        return 0;
-    };
-    let Next::Of { value: n, place } = number_at(line, place, ANY) else {
-        return 0;
-    };
-    let Lists::Of {
-        triples: k,
-        counts: m,
-        place,
-    } = lists_at(line, place, triples, counts)
-    else {
-        return 0;
-    };
-    if place < line.len() {
-        return 0;
-    }
-    write_lent(n, &triples[..k], &counts[..m], &mut room[..r], reply)
+pub(crate) fn write(line: &[u8], at: usize, lent: &mut Lent, reply: &mut [u8]) -> Option<usize> {
+    let (size, place) = count_at(line, at, lent.reasons.len())?;
+    let (n, lists, place) = problem_at(line, place, lent)?;
+    line_ends(line, place)?;
+    Some(write_lent(
+        n,
+        &lent.triples[..lists.triples],
+        &lent.counts[..lists.counts],
+        &mut lent.reasons,
+        size,
+        reply,
+    ))
 }
 
-// The text written into this room, and its reply.
-fn write_lent(n: u32, triples: &[i32], counts: &[u32], room: &mut [u8], reply: &mut [u8]) -> usize {
-    lent::fill_bytes(room, FILL);
+// The text written into so much of this room, and its reply.
+fn write_lent(
+    n: u32,
+    triples: &[i32],
+    counts: &[u32],
+    room: &mut [u8],
+    size: usize,
+    reply: &mut [u8],
+) -> usize
+    requires { size ≤ length room.old }
+{
+    let room = &mut room[..size];
+    room.fill(FILL);
     let written = planner::write_script(n, triples, counts, room);
     let to = put_written(reply, written);
     put_room(reply, to, room)
@@ -338,51 +231,19 @@ fn put_written(reply: &mut [u8], written: Written) -> usize {
 }
 
 // day N O X Y C T d1 … d576
-pub(crate) fn day(line: &[u8], at: usize, reply: &mut [u8], timetable: &mut [i32]) -> usize {
-    let Asked::Of {
-        n,
-        opposite,
-        x,
-        y,
-        c,
-        timetable: t,
-        place,
-    } = asked_at(line, at, timetable.len())
-    else {
-        return 0;
+pub(crate) fn day(line: &[u8], at: usize, lent: &mut Lent, reply: &mut [u8]) -> Option<usize> {
+    let (asked, place) = asked_at(line, at, lent.timetable.len())?;
+    let mut entries = [0; ENTRIES];
+    let place = read_list(line, place, &mut entries)?;
+    line_ends(line, place)?;
+    let timetable = &mut lent.timetable[..asked.timetable];
+    timetable.fill(FILL_TIME);
+    let day = Day {
+        n: asked.n,
+        entries,
     };
-    let mut entries = [0i32; ENTRIES];
-    let Listed::Up(place) = list_signed(line, place, &mut entries) else {
-        return 0;
-    };
-    if place < line.len() {
-        return 0;
-    }
-    day_lent(
-        Day { n, entries },
-        x,
-        y,
-        c,
-        opposite,
-        &mut timetable[..t],
-        reply,
-    )
-}
-
-// The fact added to the day, the day read off into this timetable, and the reply.
-fn day_lent(
-    day: Day,
-    x: i32,
-    y: i32,
-    c: i32,
-    opposite: bool,
-    timetable: &mut [i32],
-    reply: &mut [u8],
-) -> usize {
-    lent::fill_numbers(timetable, FILL_TIME);
-    let added = planner::add_fact(day, x, y, c, opposite);
-    let day = added.day;
-    let off = planner::read_day(day, timetable);
-    let entries = day.entries;
-    put_day(reply, added.number, off, &entries, timetable)
+    let fact = asked.fact;
+    let added = planner::add_fact(day, fact.x, fact.y, fact.c, asked.opposite);
+    let off = planner::read_day(added.day, timetable);
+    Some(put_day(reply, added.number, off, &added.day.entries, timetable))
 }

@@ -8,7 +8,7 @@ ghost use Rattle.rewrite.specs.Says.{rewriting};
 
 use dialogue::put;
 use exchange::put_script_refused;
-use script::{BYTES, LONGEST_TEXT, Written};
+use script::{BYTES, LONGEST_TEXT};
 
 // Puts what is printed for a text at the front of `out`, and answers how long it is.
 fn rewrite(text: &[u8], out: &mut [u8]) -> usize
@@ -19,18 +19,15 @@ fn rewrite(text: &[u8], out: &mut [u8]) -> usize
     if BYTES < text.len() {
         return put(out, 0, b"too long\n");
     }
-    let script = planner::read_script(text);
-    if script.number != 0 {
-        let to = put_script_refused(out, script.number, script.place);
-        return put(out, to, b"\n");
-    }
-    let triples = script.triples;
-    let counts = script.counts;
-    let numbers = 3 * script.alternatives;
-    let clauses = script.clauses;
-    match planner::write_script(script.n, &triples[..numbers], &counts[..clauses], out) {
-        Written::Text(length) => length,
-        Written::Refused(_) => 0,
+    match planner::read_script(text) {
+        Ok(script) => {
+            // what was read is accepted, and there is room for every text
+            planner::write_script(script.n, script.triples(), script.counts(), out).unwrap_or(0)
+        }
+        Err(refused) => {
+            let to = put_script_refused(out, refused.refusal.into(), refused.place);
+            put(out, to, b"\n")
+        }
     }
 }
 

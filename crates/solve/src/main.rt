@@ -59,29 +59,25 @@ fn solution(text: &[u8]) -> Saying
     if BYTES < text.len() {
         return Saying::TooLong;
     }
-    let script = planner::read_script(text);
-    if script.number != 0 {
-        return Saying::Refused {
-            number: script.number,
-            place: script.place,
-        };
+    match planner::read_script(text) {
+        Ok(script) => {
+            let mut timetable = [0i32; EVENTS];
+            let mut picks = [0u8; CLAUSES];
+            saying_of(planner::plan(
+                script.n,
+                script.triples(),
+                script.counts(),
+                ALLOWANCE,
+                &mut timetable,
+                &mut picks,
+                &mut [],
+            ))
+        }
+        Err(refused) => Saying::Refused {
+            number: refused.refusal.into(),
+            place: refused.place,
+        },
     }
-    let triples = script.triples;
-    let counts = script.counts;
-    let numbers = 3 * script.alternatives;
-    let clauses = script.clauses;
-    let mut timetable = [0i32; EVENTS];
-    let mut picks = [0u8; CLAUSES];
-    let mut reasons = [0u8; 1];
-    saying_of(planner::plan(
-        script.n,
-        &triples[..numbers],
-        &counts[..clauses],
-        ALLOWANCE,
-        &mut timetable,
-        &mut picks,
-        &mut reasons[..0],
-    ))
 }
 
 // Writes what is said into the line, and answers the place after it.

@@ -1,16 +1,17 @@
 -- A number in decimal: the digits of the library are those of `Written`, and what is written reads back. Assumes nothing.
 use Prim.Native.Nat.{ℕ, zero, suc, ◌+◌, ◌*◌, ◌-◌, ◌/◌, ◌%◌, ◌^◌, ◌≤◌, ◌<◌}
-use mathlib.Core.Path.{◌≡◌, refl, ap, ◌∙◌}
+use mathlib.Core.Path.{◌≡◌, refl, sym, ap, ◌∙◌}
 use mathlib.Core.Bool.{Bool, cond, true, false, ◌&&◌}
 use mathlib.Core.List.{List, [], ◌∷◌, ◌++◌}
-use mathlib.Core.Option.{some}
-use lib.ListN.{length, get_or, length-append}
+use Rattle.std.specs.Prelude.{Some}
+use Rattle.std.specs.Cmp.Lexicographic.{pointwise}
+use lib.ListN.{length, take, length-append}
 use lib.IntN.{ℤ, pos, negsuc}
 use lib.Signed.{mag}
 use native.Mathlib.Nat.{div-add-mod', pow-suc, pow-zero, div-lt_iff_lt-mul, le-div_iff_mul-le, mod-eq_of_lt, mod-lt, pow-le-pow_right}
 use native.Mathlib.Omega.{arith}
-use lib.Dec.{ltb, leb}
-use borrow.Author.Tests.{lt-ltb, le-ltb, le-leb, leb-true, leb-false, ltb-true, ltb-false}
+use lib.Dec.{ltb, leb, eqb}
+use borrow.Author.Tests.{ne_eqb, lt-ltb, le-ltb, le-leb, leb-true, leb-false, ltb-true, ltb-false}
 use Rattle.io.specs.Digits.{hex_digit_ascii, last_digits as digits, IsDigitCount}
 use Rattle.dialogue.specs.Written.{decimal_in, decimal, signed_decimal}
 use Rattle.dialogue.specs.Words.{are_digits, value_from, digits_from, unsigned_of, signed_of, negative}
@@ -139,27 +140,27 @@ leads (suc places) n z h = by (ltb n 10) refl (λ g. leads places (n / 10) g ((d
 pub decimal-leads : (n : ℕ) → 0 < n → n < 10 ^ 20 → Leading (decimal n)
 decimal-leads n z h = leads 20 n z h
 
-spelled : (most n : ℕ) (w : List ℕ) → n ≤ most → Spells w n → digits_from most 0 w ≡ some n
+spelled : (most n : ℕ) (w : List ℕ) → n ≤ most → Spells w n → digits_from most 0 w ≡ Some n
 unfolding digits_from
 spelled most n w l s = rw (s.all_digits, s.the_value, le-leb n most l)
 
 -- a number that is written in decimal reads back
-pub reads-back : (most n : ℕ) → n ≤ most → n < 10 ^ 20 → unsigned_of most (decimal n) ≡ some n
+pub reads-back : (most n : ℕ) → n ≤ most → n < 10 ^ 20 → unsigned_of most (decimal n) ≡ Some n
 reads-back most n l h = let s = spells 20 n h (omega arith) in unsigned-some most (decimal n) s.some-digit ∙ spelled most n (decimal n) l s
 
 -- no row of digits begins with a -
-no_minus : (n : ℕ) (w : List ℕ) → Spells w n → get_or w 0 0 ≡ 45 → ⊥
+no_minus : (n : ℕ) (w : List ℕ) → Spells w n → pointwise eqb (take 1 w) (45 ∷ []) ≡ false
 unfolding are_digits
-no_minus n [] s e = omega (arith, s.some-digit)
-no_minus n (b ∷ w) s e = omega (arith, low (leb 48 b) (leb b 57 && are_digits w) (λ t. leb-true 48 b t) s.all_digits)
+no_minus n [] s = refl
+no_minus n (b ∷ w) s = rw (ne_eqb b 45 (λ e. omega (arith, low (leb 48 b) (leb b 57 && are_digits w) (λ t. leb-true 48 b t) s.all_digits)))
   where
     low : (x y : Bool) → (x ≡ true → 48 ≤ b) → (x && y) ≡ true → 48 ≤ b
     low true y f e = f refl
     low false y f e = let z : ◌≡◌ {A = ℕ} 0 1 = cc in omega arith
 
-pub signed-reads-back : (z : ℤ) → mag z < 2 ^ 31 → signed_of (signed_decimal z) ≡ some z
+pub signed-reads-back : (z : ℤ) → mag z < 2 ^ 31 → signed_of (signed_decimal z) ≡ Some z
 unfolding signed_of
 signed-reads-back (pos n) h =
     let s = spells 20 n (omega arith) (omega arith) in
-    signed-plain (decimal n) (some n) (no_minus n (decimal n) s) (reads-back 0x7fffffff n (omega arith) (omega arith))
+    signed-plain (decimal n) (Some n) (no_minus n (decimal n) s) (sym (reads-back 0x7fffffff n (omega arith) (omega arith)))
 signed-reads-back (negsuc n) h = ap negative (reads-back 0x80000000 (suc n) (omega arith) (omega arith))

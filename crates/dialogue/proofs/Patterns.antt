@@ -4,7 +4,7 @@ use mathlib.Core.Path.{◌≡◌, refl}
 use mathlib.Core.Bool.{not}
 use native.Mathlib.Omega.{arith}
 use lib.Dec.{T}
-use lib.Ieee.{nan, binary32, of_bits, of_fields, nan_bits, div}
+use lib.Ieee.{nan, binary32, of_bits, of_fields, nan_bits}
 use borrow.Author.Tests.{eq-eqb, ne_eqb}
 
 module _ (b : ℕ) where
@@ -22,6 +22,7 @@ module _ (b : ℕ) where
   unfolding nan_bits
   no_digit e h = rw (eq-eqb (b % 0x80000000 / 0x800000) 255 e, eq-eqb (b % 0x800000) 0 (omega arith)) tt
 
-pub zero_by_zero : div binary32 (of_bits binary32 0) (of_bits binary32 0) ≡ nan
-unfolding of_bits div
-zero_by_zero = refl
+-- the library's NaN is one
+pub is_nan : of_bits binary32 0x7fc00000 ≡ nan
+unfolding of_bits
+is_nan = refl

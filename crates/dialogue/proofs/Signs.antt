@@ -4,11 +4,11 @@ use mathlib.Core.Path.{◌≡◌, refl}
 use mathlib.Core.Bool.{true, false}
 use native.Mathlib.Omega.{arith}
 use lib.IntN.{ℤ, pos, negsuc, neg_ℤ, nat_abs, ◌-ℤ◌, +ℤ_idl}
-use lib.Signed.{lt_z, nat_abs-le}
+use lib.Signed.{lt_z}
 use borrow.Author.Tests.{ltb-true}
 use mathlib.Core.List.{◌∷◌}
 use Rattle.dialogue.specs.Written.{decimal, signed_decimal}
-use mir.Syntax.{Width, w32, w64}
+use mir.Syntax.{Width}
 use mir.Val.{SFits, hbits}
 
 pub minus-fits : (w : Width) (s : ℕ) → 0 < 2 ^ hbits w → s ≤ 2 ^ hbits w → SFits w (pos 0 -ℤ pos s)
@@ -18,23 +18,12 @@ minus-fits w (suc s) z l = rw (+ℤ_idl (negsuc s)) (record { sfits = omega arit
 pub zero_minus : (s : ℕ) → pos 0 -ℤ pos s ≡ neg_ℤ (pos s)
 zero_minus s = +ℤ_idl (neg_ℤ (pos s))
 
--- a 32-bit number below 0, turned round at 64 bits
-pub turned : (z : ℤ) → lt_z z (pos 0) ≡ true → pos 0 -ℤ z ≡ pos (nat_abs z)
-turned (pos n) e = absurd (omega (arith, ltb-true n 0 e))
-turned (negsuc n) e = +ℤ_idl (pos (suc n))
-
-pub turned-fits : (z : ℤ) → SFits w32 z → SFits w64 (pos (nat_abs z))
-turned-fits z f = record { sfits = omega (arith, nat_abs-le z f.sfits) }
-
-pub not-below : (z : ℤ) → lt_z z (pos 0) ≡ false → pos (nat_abs z) ≡ z
-not-below (pos n) e = refl
-not-below (negsuc n) e = cc
-
--- a signed number in decimal, by its sign
+-- a number below 0 in decimal
 pub text-below : (z : ℤ) → lt_z z (pos 0) ≡ true → signed_decimal z ≡ 45 ∷ decimal (nat_abs z)
 text-below (pos n) e = absurd (omega (arith, ltb-true n 0 e))
 text-below (negsuc n) e = refl
 
-pub text-else : (z : ℤ) → lt_z z (pos 0) ≡ false → signed_decimal z ≡ decimal (nat_abs z)
-text-else (pos n) e = refl
-text-else (negsuc n) e = cc
+-- and one from 0 on
+pub text-from : (z : ℤ) → lt_z z (pos 0) ≡ false → signed_decimal z ≡ decimal (nat_abs z)
+text-from (pos n) e = refl
+text-from (negsuc n) e = cc

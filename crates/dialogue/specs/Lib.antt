@@ -1,4 +1,4 @@
 pub mod Words
-pub mod Told
 pub mod Lists
 pub mod Written
+pub mod Puts

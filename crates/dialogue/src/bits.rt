@@ -14,11 +14,8 @@ const ONES: u32 = 255;
 pub fn float_of(bits: u32) -> f32
     ensures { result ≡ of_bits binary32 bits }
 {
-    if bits % SIGN / FIELD == ONES {
-        if 0 < bits % FIELD {
-            let zero: f32 = 0.0;
-            return zero / zero;
-        }
+    if bits % SIGN / FIELD == ONES && 0 < bits % FIELD {
+        return f32::NAN;
     }
     f32::from_bits(bits)
 }

@@ -8,7 +8,6 @@ mod writing;
 
 pub use bits::float_of;
 pub use reading::{
-    Listed, Next, NextSigned, Number, Signed, list_bytes, list_numbers, list_signed, number_at,
-    signed_at, signed_of, unsigned_of, until,
+    Spelled, next_at, number_at, read_list, signed_at, signed_of, unsigned_of, until,
 };
-pub use writing::{put, put_bytes, put_number, put_numbers, put_signed, put_times, size};
+pub use writing::{Decimal, Writer};

@@ -1,102 +1,103 @@
-// Writing: bytes and decimal numbers into a lent buffer from a place on, never past its end.
-// Each answers the place after what it wrote.
-ghost use Rattle.std.specs.Prelude.{◌≡◌, map, nat_abs};
-ghost use Rattle.dialogue.specs.Written.{written, written_to, decimal, signed_decimal, led};
+// Writing: bytes and decimal numbers into a lent buffer, one after another, never past its end.
+ghost use Rattle.std.specs.Prelude.{◌≡◌, ℕ, List, map, take};
+ghost use Rattle.dialogue.specs.Written.{decimal, signed_decimal, led};
+ghost use Rattle.dialogue.specs.Puts.{Puts};
 
-// The bytes of `text`, as far as there is room.
-pub fn put(out: &mut [u8], at: usize, text: &[u8]) -> usize
-    ensures after { out.new ≡ written out.old at text.now }
-    ensures value { result ≡ written_to out.old at text.now }
-{
-    let mut to = at;
-    let mut i = 0;
-    while i < text.len() {
-        if out.len() <= to {
-            return to;
+// A buffer that is lent, and the place in it up to which it is written.
+#[derive(Drop)]
+pub struct Writer<'a> {
+    pub out: &'a mut [u8],
+    pub at: usize,
+}
+
+// A number of a type, as it is written in decimal.
+pub trait Decimal: Copy {
+    ghost decimal: { Self → List ℕ };
+
+    // The number in decimal.
+    fn put_decimal(self, w: &mut Writer)
+        ensures { Puts w.old w.new (decimal self) };
+}
+
+impl Decimal for u32 {
+    ghost decimal = { decimal };
+
+    fn put_decimal(self, w: &mut Writer) {
+        w.put_number(self as u64)
+    }
+}
+
+impl Decimal for u8 {
+    ghost decimal = { decimal };
+
+    fn put_decimal(self, w: &mut Writer) {
+        w.put_number(self as u64)
+    }
+}
+
+impl Decimal for i32 {
+    ghost decimal = { signed_decimal };
+
+    fn put_decimal(self, w: &mut Writer) {
+        w.put_signed(self)
+    }
+}
+
+impl<'a> Writer<'a> {
+    // A writer at the buffer's front.
+    pub fn new(out: &'a mut [u8]) -> Writer<'a>
+        ensures same { result.out.ghost_name ≡ out.entry.ghost_name }
+        ensures at_front { (result.at ≡ 0) × (result.out.now ≡ out.entry.now) }
+    {
+        Writer { out, at: 0 }
+    }
+
+    // What is written so far.
+    pub fn text(&self) -> &[u8]
+        ensures { result.now ≡ take self.now.at self.now.out.now }
+    {
+        &self.out[..self.at.min(self.out.len())]
+    }
+
+    // The bytes of `text`, as far as there is room.
+    pub fn put(&mut self, text: &[u8])
+        ensures { Puts self.old self.new text.now }
+    {
+        if self.out.len() <= self.at {
+            return;
         }
-        out[to] = text[i];
-        to += 1;
-        i += 1;
+        let n = text.len().min(self.out.len() - self.at);
+        self.out[self.at..self.at + n].copy_from_slice(&text[..n]);
+        self.at += n;
     }
-    to
-}
 
-// A number in decimal.
-pub fn put_number(out: &mut [u8], at: usize, n: u64) -> usize
-    ensures after { out.new ≡ written out.old at (decimal n) }
-    ensures value { result ≡ written_to out.old at (decimal n) }
-{
-    let mut text = [0u8; 20];
-    let k = io::decimal(n, &mut text);
-    put(out, at, &text[..k])
-}
-
-// The size of a number, its sign apart.
-pub fn size(z: i32) -> u64
-    ensures { result ≡ nat_abs z }
-{
-    if z < 0 {
-        (0 - (z as i64)) as u64
-    } else {
-        z as u64
+    // A number in decimal.
+    pub fn put_number(&mut self, n: u64)
+        ensures { Puts self.old self.new (decimal n) }
+    {
+        let mut text = [0u8; 20];
+        let k = io::decimal(n, &mut text);
+        self.put(&text[..k]);
     }
-}
 
-// A signed number in decimal.
-pub fn put_signed(out: &mut [u8], at: usize, z: i32) -> usize
-    ensures after { out.new ≡ written out.old at (signed_decimal z) }
-    ensures value { result ≡ written_to out.old at (signed_decimal z) }
-{
-    let n = size(z);
-    if z < 0 {
-        let to = put(out, at, b"-");
-        put_number(out, to, n)
-    } else {
-        put_number(out, at, n)
+    // A signed number in decimal.
+    pub fn put_signed(&mut self, z: i32)
+        ensures { Puts self.old self.new (signed_decimal z) }
+    {
+        let n = z.unsigned_abs() as u64;
+        if z < 0 {
+            self.put(b"-");
+        }
+        self.put_number(n);
     }
-}
 
-// The numbers of a list, each led by a space.
-pub fn put_numbers(out: &mut [u8], at: usize, list: &[u32]) -> usize
-    ensures after { out.new ≡ written out.old at (led (map decimal list.now)) }
-    ensures value { result ≡ written_to out.old at (led (map decimal list.now)) }
-{
-    let mut to = at;
-    let mut i = 0;
-    while i < list.len() {
-        to = put(out, to, b" ");
-        to = put_number(out, to, list[i] as u64);
-        i += 1;
+    // The numbers of a list, each led by a space.
+    pub fn put_list<T: Decimal>(&mut self, list: &[T])
+        ensures { Puts self.old self.new (led (map T.decimal list.now)) }
+    {
+        for &number in list {
+            self.put(b" ");
+            number.put_decimal(self);
+        }
     }
-    to
-}
-
-// The same for bytes.
-pub fn put_bytes(out: &mut [u8], at: usize, list: &[u8]) -> usize
-    ensures after { out.new ≡ written out.old at (led (map decimal list.now)) }
-    ensures value { result ≡ written_to out.old at (led (map decimal list.now)) }
-{
-    let mut to = at;
-    let mut i = 0;
-    while i < list.len() {
-        to = put(out, to, b" ");
-        to = put_number(out, to, list[i] as u64);
-        i += 1;
-    }
-    to
-}
-
-// The same for signed numbers.
-pub fn put_times(out: &mut [u8], at: usize, list: &[i32]) -> usize
-    ensures after { out.new ≡ written out.old at (led (map signed_decimal list.now)) }
-    ensures value { result ≡ written_to out.old at (led (map signed_decimal list.now)) }
-{
-    let mut to = at;
-    let mut i = 0;
-    while i < list.len() {
-        to = put(out, to, b" ");
-        to = put_signed(out, to, list[i]);
-        i += 1;
-    }
-    to
 }

@@ -1,10 +1,9 @@
 -- The replies as text, in ASCII, without the line feed. Assumes nothing.
-use Rattle.std.specs.Prelude.{ℕ, zero, suc, cond, List, [], ◌∷◌, ◌++◌, map, eqb, length, ℤ}
+use Rattle.std.specs.Prelude.{ℕ, zero, suc, cond, List, [], ◌∷◌, ◌++◌, map, eqb, length, ℤ, Result, Ok, Err}
 use Rattle.dialogue.specs.Written.{decimal, signed_decimal, led}
 use Rattle.meaning.specs.declared.Answer.{Answer}
 use Rattle.meaning.specs.declared.Verdict.{Verdict}
 use Rattle.meaning.specs.declared.Panel.{Panel}
-use Rattle.slider.specs.declared.SliderAnswer.{SliderAnswer}
 
 -- a space and a number
 abbrev pub next : ℕ → List ℕ
@@ -34,13 +33,17 @@ abbrev pub bar : ℕ → List ℕ
 bar zero = 32 ∷ 124 ∷ 32 ∷ []
 bar (suc n) = 32 ∷ 124 ∷ []
 
+-- ` | ` the numbers of a list, each as its type writes it
+abbrev pub barred : {A : Type 0} → (A → List ℕ) → List A → List ℕ
+barred text list = bar (length list) ++ led (map text list)
+
 -- ` | ` the room's bytes
 abbrev pub room_text : List ℕ → List ℕ
-room_text room = bar (length room) ++ led (map decimal room)
+room_text = barred decimal
 
 -- ` | ` the numbers of a signed list
 abbrev pub times_text : List ℤ → List ℕ
-times_text times = bar (length times) ++ led (map signed_decimal times)
+times_text = barred signed_decimal
 
 -- ` | ` the timetable's elements ` | ` the picks' ` | ` the reasons'
 abbrev pub lent_text : List ℤ → List ℕ → List ℕ → List ℕ
@@ -59,9 +62,9 @@ panel_text p =
     ++ led (map decimal p.each)
 
 -- `bound Z` or `refused NUMBER`
-abbrev pub bound_text : SliderAnswer → List ℕ
-bound_text (SliderAnswer.Bound z) = (98 ∷ 111 ∷ 117 ∷ 110 ∷ 100 ∷ 32 ∷ []) ++ signed_decimal z
-bound_text (SliderAnswer.Refused n) = refused_text n
+abbrev pub bound_text : Result ℤ ℕ → List ℕ
+bound_text (Ok z) = (98 ∷ 111 ∷ 117 ∷ 110 ∷ 100 ∷ 32 ∷ []) ++ signed_decimal z
+bound_text (Err n) = refused_text n
 
 -- `problem N K t1 … tK M e1 … eM`
 abbrev pub problem_text : ℕ → List ℤ → List ℕ → List ℕ

@@ -1,56 +1,50 @@
-// Writing a reply into a lent buffer: each function answers the place after what it wrote.
-ghost use Rattle.std.specs.Prelude.{◌≡◌, map};
-ghost use Rattle.dialogue.specs.Written.{written, written_to, decimal, led};
-ghost use Rattle.exchange.specs.Replies.{next, with_two, with_three, refused_text, answer_text, bar, lent_text, verdict_text, panel_text, bound_text, problem_text, refused_at_text, script_refused_text, length_text, room_text, times_text, day_text};
+// Writing a reply: each function writes one part of it where the writer is.
+ghost use Rattle.std.specs.Prelude.{◌≡◌};
+ghost use Rattle.dialogue.specs.Puts.{Puts};
+ghost use Rattle.exchange.specs.Replies.{next, with_two, with_three, refused_text, answer_text, bar, barred, lent_text, verdict_text, panel_text, bound_text, problem_text, refused_at_text, script_refused_text, length_text, day_text};
 
-use dialogue::{put, put_number};
+use dialogue::{Decimal, Writer};
 use meaning::{Answer, Panel, Verdict};
-use slider::SliderAnswer;
 
-// The refusal of a script that carries a place.
+// The refusal of a script that carries a place: a number, as every refusal in a reply.
 const WITH_PLACE: u8 = 20;
 
 // A space and a number.
-fn put_next(reply: &mut [u8], at: usize, n: u64) -> usize
-    ensures after { reply.new ≡ written reply.old at (next n) }
-    ensures value { result ≡ written_to reply.old at (next n) }
+fn put_next(reply: &mut Writer, n: u64)
+    ensures { Puts reply.old reply.new (next n) }
 {
-    let to = put(reply, at, b" ");
-    put_number(reply, to, n)
+    reply.put(b" ");
+    reply.put_number(n)
 }
 
 // A word and two numbers, as visits and before.
-fn put_two(reply: &mut [u8], word: &[u8], visits: u64, before: u64) -> usize
-    ensures after { reply.new ≡ written reply.old 0 (with_two word.now visits before) }
-    ensures value { result ≡ written_to reply.old 0 (with_two word.now visits before) }
+fn put_two(reply: &mut Writer, word: &[u8], visits: u64, before: u64)
+    ensures { Puts reply.old reply.new (with_two word.now visits before) }
 {
-    let to = put(reply, 0, word);
-    let to = put_next(reply, to, visits);
-    put_next(reply, to, before)
+    reply.put(word);
+    put_next(reply, visits);
+    put_next(reply, before)
 }
 
 // A word, visits, before and rows.
-fn put_three(reply: &mut [u8], word: &[u8], visits: u64, before: u64, rows: u64) -> usize
-    ensures after { reply.new ≡ written reply.old 0 (with_three word.now visits before rows) }
-    ensures value { result ≡ written_to reply.old 0 (with_three word.now visits before rows) }
+fn put_three(reply: &mut Writer, word: &[u8], visits: u64, before: u64, rows: u64)
+    ensures { Puts reply.old reply.new (with_three word.now visits before rows) }
 {
-    let to = put_two(reply, word, visits, before);
-    put_next(reply, to, rows)
+    put_two(reply, word, visits, before);
+    put_next(reply, rows)
 }
 
 // A refusal and its number.
-pub fn put_refused(reply: &mut [u8], number: u8) -> usize
-    ensures after { reply.new ≡ written reply.old 0 (refused_text number) }
-    ensures value { result ≡ written_to reply.old 0 (refused_text number) }
+pub fn put_refused(reply: &mut Writer, number: u8)
+    ensures { Puts reply.old reply.new (refused_text number) }
 {
-    let to = put(reply, 0, b"refused");
-    put_next(reply, to, number as u64)
+    reply.put(b"refused");
+    put_next(reply, number as u64)
 }
 
 // What the screen says, without the lent memory.
-pub fn put_answer(reply: &mut [u8], answer: Answer) -> usize
-    ensures after { reply.new ≡ written reply.old 0 (answer_text answer) }
-    ensures value { result ≡ written_to reply.old 0 (answer_text answer) }
+pub fn put_answer(reply: &mut Writer, answer: Answer)
+    ensures { Puts reply.old reply.new (answer_text answer) }
 {
     match answer {
         Answer::Plan { visits, before } => put_two(reply, b"plan", visits, before),
@@ -70,125 +64,92 @@ pub fn put_answer(reply: &mut [u8], answer: Answer) -> usize
 }
 
 // A bar, and a space where the list after it is empty: the numbers of a list are each led by a space.
-fn put_bar(reply: &mut [u8], at: usize, length: usize) -> usize
-    ensures after { reply.new ≡ written reply.old at (bar length) }
-    ensures value { result ≡ written_to reply.old at (bar length) }
+fn put_bar(reply: &mut Writer, length: usize)
+    ensures { Puts reply.old reply.new (bar length) }
 {
     if 0 < length {
-        put(reply, at, b" |")
+        reply.put(b" |")
     } else {
-        put(reply, at, b" | ")
+        reply.put(b" | ")
     }
 }
 
-// The bytes of lent room, led by a bar.
-pub fn put_room(reply: &mut [u8], at: usize, room: &[u8]) -> usize
-    ensures after { reply.new ≡ written reply.old at (room_text room.now) }
-    ensures value { result ≡ written_to reply.old at (room_text room.now) }
+// The numbers of a list in lent room, led by a bar.
+pub fn put_room<T: Decimal>(reply: &mut Writer, room: &[T])
+    ensures { Puts reply.old reply.new (barred T.decimal room.now) }
 {
-    let to = put_bar(reply, at, room.len());
-    dialogue::put_bytes(reply, to, room)
-}
-
-// The numbers of a signed list, led by a bar.
-fn put_times(reply: &mut [u8], at: usize, times: &[i32]) -> usize
-    ensures after { reply.new ≡ written reply.old at (times_text times.now) }
-    ensures value { result ≡ written_to reply.old at (times_text times.now) }
-{
-    let to = put_bar(reply, at, times.len());
-    dialogue::put_times(reply, to, times)
+    put_bar(reply, room.len());
+    reply.put_list(room)
 }
 
 // The lent memory, each part led by a bar.
-pub fn put_lent(
-    reply: &mut [u8],
-    at: usize,
-    timetable: &[i32],
-    picks: &[u8],
-    reasons: &[u8],
-) -> usize
-    ensures after { reply.new ≡ written reply.old at (lent_text timetable.now picks.now reasons.now) }
-    ensures value { result ≡ written_to reply.old at (lent_text timetable.now picks.now reasons.now) }
+pub fn put_lent(reply: &mut Writer, timetable: &[i32], picks: &[u8], reasons: &[u8])
+    ensures { Puts reply.old reply.new (lent_text timetable.now picks.now reasons.now) }
 {
-    let to = put_times(reply, at, timetable);
-    let to = put_room(reply, to, picks);
-    put_room(reply, to, reasons)
+    put_room(reply, timetable);
+    put_room(reply, picks);
+    put_room(reply, reasons)
 }
 
 // What a reader says.
-pub fn put_verdict(reply: &mut [u8], verdict: Verdict) -> usize
-    ensures after { reply.new ≡ written reply.old 0 (verdict_text verdict) }
-    ensures value { result ≡ written_to reply.old 0 (verdict_text verdict) }
+pub fn put_verdict(reply: &mut Writer, verdict: Verdict)
+    ensures { Puts reply.old reply.new (verdict_text verdict) }
 {
     match verdict {
-        Verdict::Yes => put(reply, 0, b"yes"),
-        Verdict::No => put(reply, 0, b"no"),
+        Verdict::Yes => reply.put(b"yes"),
+        Verdict::No => reply.put(b"no"),
         Verdict::Refused { number } => put_refused(reply, number),
     }
 }
 
-// The lit lamps per clause.
-fn put_each(reply: &mut [u8], at: usize, each: [u32; 32]) -> usize
-    ensures after { reply.new ≡ written reply.old at (led (map decimal each)) }
-    ensures value { result ≡ written_to reply.old at (led (map decimal each)) }
-{
-    dialogue::put_numbers(reply, at, &each)
-}
-
 // The lamp panel.
-pub fn put_panel(reply: &mut [u8], panel: Panel) -> usize
-    ensures after { reply.new ≡ written reply.old 0 (panel_text panel) }
-    ensures value { result ≡ written_to reply.old 0 (panel_text panel) }
+pub fn put_panel(reply: &mut Writer, panel: Panel)
+    ensures { Puts reply.old reply.new (panel_text panel) }
 {
-    let to = put(reply, 0, b"lamps");
-    let to = put_next(reply, to, panel.number as u64);
-    let to = put_next(reply, to, panel.lit);
-    let to = put_next(reply, to, panel.total as u64);
-    let to = put_next(reply, to, panel.first as u64);
-    let each = panel.each;
-    put_each(reply, to, each)
+    reply.put(b"lamps");
+    put_next(reply, panel.number as u64);
+    put_next(reply, panel.lit);
+    put_next(reply, panel.total as u64);
+    put_next(reply, panel.first as u64);
+    reply.put_list(&panel.each)
 }
 
-// A slider's bound.
-pub fn put_bound(reply: &mut [u8], answer: SliderAnswer) -> usize
-    ensures after { reply.new ≡ written reply.old 0 (bound_text answer) }
-    ensures value { result ≡ written_to reply.old 0 (bound_text answer) }
+// A slider's bound, or the refusal's number.
+pub fn put_bound(reply: &mut Writer, answer: Result<i32, u8>)
+    ensures { Puts reply.old reply.new (bound_text answer) }
 {
     match answer {
-        SliderAnswer::Bound(bound) => {
-            let to = put(reply, 0, b"bound ");
-            dialogue::put_signed(reply, to, bound)
+        Ok(bound) => {
+            reply.put(b"bound ");
+            reply.put_signed(bound)
         }
-        SliderAnswer::Refused(number) => put_refused(reply, number),
+        Err(number) => put_refused(reply, number),
     }
 }
 
 // The problem that a script says: its events, its triples and its clause counts, each list led by its length.
-pub fn put_problem(reply: &mut [u8], n: u32, triples: &[i32], counts: &[u32]) -> usize
-    ensures after { reply.new ≡ written reply.old 0 (problem_text n triples.now counts.now) }
-    ensures value { result ≡ written_to reply.old 0 (problem_text n triples.now counts.now) }
+pub fn put_problem(reply: &mut Writer, n: u32, triples: &[i32], counts: &[u32])
+    ensures { Puts reply.old reply.new (problem_text n triples.now counts.now) }
 {
-    let to = put(reply, 0, b"problem");
-    let to = put_next(reply, to, n as u64);
-    let to = put_next(reply, to, triples.len() as u64);
-    let to = dialogue::put_times(reply, to, triples);
-    let to = put_next(reply, to, counts.len() as u64);
-    dialogue::put_numbers(reply, to, counts)
+    reply.put(b"problem");
+    put_next(reply, n as u64);
+    put_next(reply, triples.len() as u64);
+    reply.put_list(triples);
+    put_next(reply, counts.len() as u64);
+    reply.put_list(counts)
 }
 
 // A script's refusal: its number and its place.
-pub fn put_refused_at(reply: &mut [u8], number: u8, place: usize) -> usize
-    ensures after { reply.new ≡ written reply.old 0 (refused_at_text number place) }
-    ensures value { result ≡ written_to reply.old 0 (refused_at_text number place) }
+pub fn put_refused_at(reply: &mut Writer, number: u8, place: usize)
+    ensures { Puts reply.old reply.new (refused_at_text number place) }
 {
-    let to = put_refused(reply, number);
-    put_next(reply, to, place as u64)
+    put_refused(reply, number);
+    put_next(reply, place as u64)
 }
 
 // A script's refusal as a program prints it: its number, and its place where it has one.
-pub fn put_script_refused(line: &mut [u8], number: u8, place: usize) -> usize
-    ensures after { line.new ≡ written line.old 0 (script_refused_text number place) }
-    ensures value { result ≡ written_to line.old 0 (script_refused_text number place) }
+pub fn put_script_refused(line: &mut Writer, number: u8, place: usize)
+    ensures { Puts line.old line.new (script_refused_text number place) }
 {
     if number == WITH_PLACE {
         put_refused_at(line, number, place)
@@ -198,20 +159,18 @@ pub fn put_script_refused(line: &mut [u8], number: u8, place: usize) -> usize
 }
 
 // The length of a text that was written.
-pub fn put_length(reply: &mut [u8], length: usize) -> usize
-    ensures after { reply.new ≡ written reply.old 0 (length_text length) }
-    ensures value { result ≡ written_to reply.old 0 (length_text length) }
+pub fn put_length(reply: &mut Writer, length: usize)
+    ensures { Puts reply.old reply.new (length_text length) }
 {
-    let to = put(reply, 0, b"text");
-    put_next(reply, to, length as u64)
+    reply.put(b"text");
+    put_next(reply, length as u64)
 }
 
 // A standing day after an addition: the addition's refusal or 0, that of reading the day off or 0, the day's entries and the timetable.
-pub fn put_day(reply: &mut [u8], number: u8, off: u8, entries: &[i32], timetable: &[i32]) -> usize
-    ensures after { reply.new ≡ written reply.old 0 (day_text number off entries.now timetable.now) }
-    ensures value { result ≡ written_to reply.old 0 (day_text number off entries.now timetable.now) }
+pub fn put_day(reply: &mut Writer, number: u8, off: u8, entries: &[i32], timetable: &[i32])
+    ensures { Puts reply.old reply.new (day_text number off entries.now timetable.now) }
 {
-    let to = put_two(reply, b"day", number as u64, off as u64);
-    let to = put_times(reply, to, entries);
-    put_times(reply, to, timetable)
+    put_two(reply, b"day", number as u64, off as u64);
+    put_room(reply, entries);
+    put_room(reply, timetable)
 }

@@ -1,5 +1,5 @@
 -- A piece read byte by byte: what was read goes in front of what remains. Assumes nothing.
-use mathlib.Core.Path.{◌≡◌, refl, sym, ap, ◌∙◌}
+use mathlib.Core.Path.{◌≡◌, refl, sym, ap, ap₂, ◌∙◌}
 use mathlib.Core.Bool.{Bool, true, false, cond}
 use mathlib.Core.List.{List, [], ◌∷◌, ◌++◌, append_assoc}
 use mathlib.Core.Option.{some}
@@ -14,8 +14,12 @@ use Rattle.grammar.specs.Grammar.{Role, role_no, script}
 use Rattle.grammar.specs.Place.{role_of, place_from}
 use Rattle.grammar.specs.States.{grown, origins, states, grammar_of}
 use Rattle.grammar.specs.Pieces.{Piece, join_to, pieces}
-use Rattle.grammar.specs.Automaton.{Steps, PieceAt}
-use Rattle.grammar.proofs.Same.{role_at, role-back}
+use Rattle.grammar.specs.declared.automaton.Move.{Move}
+use Rattle.grammar.specs.declared.role.Role.{Role as Coded}
+use Rattle.grammar.specs.Roles.{meant}
+use Rattle.grammar.specs.Automaton.{Steps, Moves, NoPiece, IsPiece}
+use Rattle.std.specs.Prelude.{Some, None}
+use Rattle.grammar.proofs.Same.{role-eq, meant-once}
 
 -- ---- the first state
 pub starts : grammar_of 1 ≡ script
@@ -23,9 +27,6 @@ unfolding grammar_of states grown origins
 starts = refl
 
 -- ---- runs put in front
-pub role-eq : (r s : Role) → role_no r ≡ role_no s → r ≡ s
-role-eq r s e = sym (role-back r) ∙ ap role_at e ∙ role-back s
-
 abbrev piece : Role → ℕ → List ℕ → Piece
 piece r i w = record { role = r; from = i; word = w }
 
@@ -86,93 +87,70 @@ module _ (text : List ℕ) (i s : ℕ) where
     unfolding pieces
     joins n = rw (byte-there inside, m.goes_on n, ← m.leads, add-one)
 
--- ---- the piece so far: from `at` up to i, begun at the state q, with s there
-pub record Run (text : List ℕ) (at q r i s : ℕ) : Type 0 where
-  pub role : Role
-  pub number : role_no role ≡ r
-  pub so_far : pieces at (grammar_of q) (drop at text) ≡ join_to at role (slice at i text) (pieces i (grammar_of s) (drop i text))
+-- ---- the piece so far, of the role ρ: from `at` up to i, begun at the state q, with s there
+pub record Run (text : List ℕ) (at q : ℕ) (ρ : Role) (i s : ℕ) : Type 0 where
+  pub so_far : pieces at (grammar_of q) (drop at text) ≡ join_to at ρ (slice at i text) (pieces i (grammar_of s) (drop i text))
   pub place : place_from at (grammar_of q) (drop at text) ≡ place_from i (grammar_of s) (drop i text)
 
 module _ (text : List ℕ) (at q : ℕ) where
   -- its first byte
-  pub run-begins : (s r : ℕ) → at < length text → Steps q (get_or text at 0) s r → (s ≡ 0 → ⊥) → Run text at q r (at + 1) s
-  run-begins s r h m n =
+  pub run-begins : (m : Move) → at < length text → Moves q (get_or text at 0) (Some m) → Run text at q (meant m.role) (at + 1) m.to
+  run-begins m h (n, p) =
       let b : ℕ = get_or text at 0 in
+      let rest : List Piece = pieces (at + 1) (grammar_of m.to) (drop (at + 1) text) in
+      let is : role_of b (grammar_of q) ≡ meant m.role = role-eq _ _ (sym (p.role n)) in
       let one : slice at (at + 1) text ≡ b ∷ [] = ap (λ (k : ℕ). slice at k text) (add-one at) ∙ slice-more text at at (omega arith) h ∙ ap (λ (l : List ℕ). l ++ (b ∷ [])) (slice_empty at text) in
       record {
-        role = role_of b (grammar_of q);
-        number = sym (m.role n);
-        so_far = joins text at q s r h m n ∙ ap (λ (l : List ℕ). join_to at (role_of b (grammar_of q)) l (pieces (at + 1) (grammar_of s) (drop (at + 1) text))) (sym one);
-        place = goes-on-here text at q s r h m n;
+        so_far = joins text at q m.to _ h p n ∙ ap₂ (λ (ρ : Role) (l : List ℕ). join_to at ρ l rest) is (sym one);
+        place = goes-on-here text at q m.to _ h p n;
       }
 
-  module _ (r i s : ℕ) (from : at < i) (run : Run text at q r i s) where
+  module _ (r : Coded) (i s : ℕ) (from : at < i) (run : Run text at q (meant r) i s) where
     -- one byte more
-    pub run-goes-on : (t v : ℕ) → i < length text → Steps s (get_or text i 0) t v → (t ≡ 0 → ⊥) → v ≡ r → Run text at q r (i + 1) t
-    run-goes-on t v h m n same =
+    pub run-goes-on : (m : Move) → i < length text → Moves s (get_or text i 0) (Some m) → m.role ≡ r → Run text at q (meant r) (i + 1) m.to
+    run-goes-on m h (n, p) same =
         let b : ℕ = get_or text i 0 in
-        let ρ : Role = run.role in
-        let is : role_of b (grammar_of s) ≡ ρ = role-eq (role_of b (grammar_of s)) ρ (sym (m.role n) ∙ same ∙ sym run.number) in
-        let rest : List Piece = pieces (i + 1) (grammar_of t) (drop (i + 1) text) in
+        let ρ : Role = meant r in
+        let is : role_of b (grammar_of s) ≡ ρ = role-eq _ _ (sym (p.role n)) ∙ ap meant same in
+        let rest : List Piece = pieces (i + 1) (grammar_of m.to) (drop (i + 1) text) in
         let more : slice at i text ++ (b ∷ []) ≡ slice at (i + 1) text = sym (ap (λ (k : ℕ). slice at k text) (add-one i) ∙ slice-more text at i (omega arith) h) in
         record {
-          role = ρ;
-          number = run.number;
           so_far =
-              run.so_far ∙ ap (join_to at ρ (slice at i text)) (joins text i s t v h m n ∙ ap (λ (σ : Role). join_to i σ (b ∷ []) rest) is)
+              run.so_far ∙ ap (join_to at ρ (slice at i text)) (joins text i s m.to _ h p n ∙ ap (λ (σ : Role). join_to i σ (b ∷ []) rest) is)
               ∙ join-join at i ρ (slice at i text) (b ∷ []) rest ∙ ap (λ (l : List ℕ). join_to at ρ l rest) more;
-          place = run.place ∙ goes-on-here text i s t v h m n;
+          place = run.place ∙ goes-on-here text i s m.to _ h p n;
         }
 
     -- its end
-    ended : i ≤ length text → join_to at run.role (slice at i text) (pieces i (grammar_of s) (drop i text)) ≡ piece run.role at (slice at i text) ∷ pieces i (grammar_of s) (drop i text) → PieceAt text at q r i s
-    ended w e =
-        record {
-          onward = omega arith;
-          within = omega arith;
-          same_place = run.place;
-          the-piece = λ _. (run.role, run.number, run.so_far ∙ e);
-          no_more = λ z. absurd (omega arith);
-          stuck = λ z. absurd (omega arith);
-        }
+    Apart : Type 0
+    Apart = join_to at (meant r) (slice at i text) (pieces i (grammar_of s) (drop i text)) ≡ piece (meant r) at (slice at i text) ∷ pieces i (grammar_of s) (drop i text)
 
-    nothing-after : pieces i (grammar_of s) (drop i text) ≡ [] → join_to at run.role (slice at i text) (pieces i (grammar_of s) (drop i text)) ≡ piece run.role at (slice at i text) ∷ pieces i (grammar_of s) (drop i text)
-    unfolding join_to
+    ended : i ≤ length text → Apart → IsPiece text at q (record { role = r; to = i; state = s })
+    unfolding Apart
+    ended w e = record { onward = from; within = w; same_place = run.place; the-piece = run.so_far ∙ e }
+
+    nothing-after : pieces i (grammar_of s) (drop i text) ≡ [] → Apart
+    unfolding join_to Apart
     nothing-after z = rw z
 
-    pub ends-with-text : i ≤ length text → length text ≤ i → PieceAt text at q r i s
-    ends-with-text w z = ended w (nothing-after (none-at-end text i s z))
+    pub ends-with-text : i ≡ length text → IsPiece text at q (record { role = r; to = i; state = s })
+    ends-with-text w = ended (omega arith) (nothing-after (none-at-end text i s (omega arith)))
 
-    pub ends-refused : (t v : ℕ) → i < length text → Steps s (get_or text i 0) t v → t ≡ 0 → PieceAt text at q r i s
-    ends-refused t v w m z = ended (omega arith) (nothing-after (none-where-refused text i s t v w m z))
+    pub ends-refused : i < length text → Moves s (get_or text i 0) None → IsPiece text at q (record { role = r; to = i; state = s })
+    ends-refused w m = ended (omega arith) (nothing-after (none-where-refused text i s 0 0 w m refl))
 
-    pub ends-apart : (t v : ℕ) → i < length text → Steps s (get_or text i 0) t v → (t ≡ 0 → ⊥) → (v ≡ r → ⊥) → PieceAt text at q r i s
-    ends-apart t v w m n differ =
+    pub ends-apart : (m : Move) → i < length text → Moves s (get_or text i 0) (Some m) → (m.role ≡ r → ⊥) → IsPiece text at q (record { role = r; to = i; state = s })
+    unfolding Apart
+    ends-apart m w (n, p) differ =
         let b : ℕ = get_or text i 0 in
         let σ : Role = role_of b (grammar_of s) in
-        let rest : List Piece = pieces (i + 1) (grammar_of t) (drop (i + 1) text) in
-        let j : pieces i (grammar_of s) (drop i text) ≡ join_to i σ (b ∷ []) rest = joins text i s t v w m n in
-        ended (omega arith) (rw (j) (join_apart at i run.role σ (slice at i text) (b ∷ []) rest (λ z. differ (m.role n ∙ sym z ∙ run.number))))
+        let rest : List Piece = pieces (i + 1) (grammar_of m.to) (drop (i + 1) text) in
+        let j : pieces i (grammar_of s) (drop i text) ≡ join_to i σ (b ∷ []) rest = joins text i s m.to _ w p n in
+        ended (omega arith) (rw (j) (join_apart at i (meant r) σ (slice at i text) (b ∷ []) rest (λ z. differ (meant-once _ _ (role-eq _ _ (p.role n ∙ sym z))))))
 
   -- no piece
-  pub none-at-the-end : length text ≤ at → PieceAt text at q 0 at q
-  none-at-the-end k =
-      record {
-        onward = omega arith;
-        within = omega arith;
-        same_place = refl;
-        the-piece = λ z. absurd (omega arith);
-        no_more = λ z. none-at-end text at q k;
-        stuck = λ z w. absurd (omega arith);
-      }
+  pub none-at-the-end : length text ≤ at → NoPiece text at q
+  none-at-the-end k = record { no_more = none-at-end text at q k; stuck = λ w. absurd (omega arith) }
 
-  pub none-refused : (s r : ℕ) → at < length text → Steps q (get_or text at 0) s r → s ≡ 0 → PieceAt text at q 0 at q
-  none-refused s r h m d =
-      record {
-        onward = omega arith;
-        within = omega arith;
-        same_place = refl;
-        the-piece = λ z. absurd (omega arith);
-        no_more = λ z. none-where-refused text at q s r h m d;
-        stuck = λ z w. refused-here text at q s r h m d;
-      }
+  pub none-refused : at < length text → Moves q (get_or text at 0) None → NoPiece text at q
+  none-refused h m = record { no_more = none-where-refused text at q 0 0 h m refl; stuck = λ w. refused-here text at q 0 0 h m refl }

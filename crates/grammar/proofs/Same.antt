@@ -2,11 +2,15 @@
 use mathlib.Core.Path.{◌≡◌, refl, sym, ap, ap₂, ◌∙◌}
 use mathlib.Core.Bool.{Bool, true, false}
 use mathlib.Core.Option.{Option, none as differ, some as equal}
-use Prim.Native.Nat.{ℕ, zero, suc}
+use Prim.Native.Nat.{ℕ, zero, suc, ◌≤◌, ◌<◌}
+use native.Mathlib.Omega.{arith}
 use lib.Dec.{T, eqb, eqb→eq}
+use Rattle.grammar.specs.declared.role.Role.{Role as Coded}
+use Rattle.grammar.specs.declared.role.Role.TheVariants.{Other, NewName, FirstName, SecondName, BoundDigit, NegatedDigit, DeclarationEnd, AssertEnd, CheckEnd}
+use Rattle.grammar.specs.Roles.{meant}
 use Rattle.grammar.specs.Grammar.{role_no, Role, other, new_name, first_name, second_name, bound_digit, negated_digit, declaration_end, assert_end, check_end, Kind, exactly, space, line_end, in_comment, symbol_first, symbol_byte, digit, leading_digit, Grammar, none, empty, one, ◌then◌, ◌either◌, many}
 
--- ---- roles and kinds by numbers
+-- ---- roles by numbers
 pub role_at : ℕ → Role
 role_at zero = other
 role_at (suc zero) = new_name
@@ -30,6 +34,55 @@ role-back declaration_end = refl
 role-back assert_end = refl
 role-back check_end = refl
 
+pub role-eq : (r s : Role) → role_no r ≡ role_no s → r ≡ s
+role-eq r s e = sym (role-back r) ∙ ap role_at e ∙ role-back s
+
+-- the role that has a number is the only one
+pub by_its_number : (r : Role) {n : ℕ} → n ≡ role_no r → (ρ : Role) → role_no ρ ≡ n → r ≡ ρ
+by_its_number r z ρ e = role-eq r ρ (sym z ∙ sym e)
+
+-- and a number of none of the others is that of `other`
+pub by_no-number : {n : ℕ} → (1 ≤ n → 8 < n) → (ρ : Role) → role_no ρ ≡ n → other ≡ ρ
+unfolding role_no
+by_no-number z other e = refl
+by_no-number z new_name e = absurd (omega arith)
+by_no-number z first_name e = absurd (omega arith)
+by_no-number z second_name e = absurd (omega arith)
+by_no-number z bound_digit e = absurd (omega arith)
+by_no-number z negated_digit e = absurd (omega arith)
+by_no-number z declaration_end e = absurd (omega arith)
+by_no-number z assert_end e = absurd (omega arith)
+by_no-number z check_end e = absurd (omega arith)
+
+-- ---- the code's roles
+coded : Role → Coded
+coded other = Other
+coded new_name = NewName
+coded first_name = FirstName
+coded second_name = SecondName
+coded bound_digit = BoundDigit
+coded negated_digit = NegatedDigit
+coded declaration_end = DeclarationEnd
+coded assert_end = AssertEnd
+coded check_end = CheckEnd
+
+coded-meant : (r : Coded) → coded (meant r) ≡ r
+unfolding coded
+coded-meant Other = refl
+coded-meant NewName = refl
+coded-meant FirstName = refl
+coded-meant SecondName = refl
+coded-meant BoundDigit = refl
+coded-meant NegatedDigit = refl
+coded-meant DeclarationEnd = refl
+coded-meant AssertEnd = refl
+coded-meant CheckEnd = refl
+
+-- no two of them stand for one role
+pub meant-once : (r s : Coded) → meant r ≡ meant s → r ≡ s
+meant-once r s e = sym (coded-meant r) ∙ ap coded e ∙ coded-meant s
+
+-- ---- kinds by numbers
 unfoldable pub kind_no : Kind → ℕ
 kind_no space = 0
 kind_no line_end = 1

@@ -1,10 +1,13 @@
 -- The automaton's table, and what is read by it: a step, and a piece. Definitions only.
 -- The table has the class of each byte, and then a row for each state: the next state for each class, the one role besides `other` that a
 -- byte may have there, and 1 where the text may end there.
-use Rattle.std.specs.Prelude.{◌≡◌, Bool, true, false, cond, List, [], ◌∷◌, ℕ, ◌+◌, ◌*◌, ◌≤◌, ◌<◌, max, leb, eqb, length, get_or, drop}
+use Rattle.std.specs.Prelude.{◌≡◌, Bool, true, false, cond, List, [], ◌∷◌, ℕ, ◌+◌, ◌*◌, ◌≤◌, ◌<◌, leb, eqb, length, get_or, drop, Option, Some, None}
 use Rattle.std.proofs.Math.Option.{some}
 use Rattle.std.proofs.Math.Seq.{slice}
-use Rattle.grammar.specs.Grammar.{Role, role_no}
+use Rattle.grammar.specs.declared.automaton.Move.{Move}
+use Rattle.grammar.specs.declared.pieces.Part.{Part}
+use Rattle.grammar.specs.Grammar.{role_no}
+use Rattle.grammar.specs.Roles.{meant}
 use Rattle.grammar.specs.Place.{ends, live, after, role_of, place_from}
 use Rattle.grammar.specs.Pieces.{pieces}
 use Rattle.grammar.specs.States.{grammar_of}
@@ -52,13 +55,24 @@ pub record IsTable (t : List ℕ) : Type 0 where
   pub ending : (s : ℕ) → s < 256 → entry t s end_column ≡ end_no (ends (grammar_of s))
 
 -- ---- what is read by it
--- read at a state, from the place `at` on: the piece up to `to`, whose role has this number, and the state after it; no piece where `to` is `at`
-pub record PieceAt (text : List ℕ) (at state role to next : ℕ) : Type 0 where
-  pub onward : at ≤ to
-  pub within : to ≤ max at (length text)
-  pub same_place : place_from at (grammar_of state) (drop at text) ≡ place_from to (grammar_of next) (drop to text)
-  pub the-piece :
-      at < to
-      → (r : Role) × (role_no r ≡ role) × (pieces at (grammar_of state) (drop at text) ≡ record { role = r; from = at; word = slice at to text } ∷ pieces to (grammar_of next) (drop to text))
-  pub no_more : to ≡ at → pieces at (grammar_of state) (drop at text) ≡ []
-  pub stuck : to ≡ at → at < length text → place_from at (grammar_of state) (drop at text) ≡ some at
+-- where the byte b leads from the state s: None where it is refused
+abbrev pub Moves : ℕ → ℕ → Option Move → Type 0
+Moves s b None = Steps s b 0 0
+Moves s b (Some m) = (m.to ≡ 0 → ⊥) × Steps s b m.to (role_no (meant m.role))
+
+-- from the place `at` on, read at a state, there is no piece: the text ends, or its next byte is refused
+pub record NoPiece (text : List ℕ) (at state : ℕ) : Type 0 where
+  pub no_more : pieces at (grammar_of state) (drop at text) ≡ []
+  pub stuck : at < length text → place_from at (grammar_of state) (drop at text) ≡ some at
+
+-- the piece there: what follows it is read from its end on, at its state
+pub record IsPiece (text : List ℕ) (at state : ℕ) (p : Part) : Type 0 where
+  pub onward : at < p.to
+  pub within : p.to ≤ length text
+  pub same_place : place_from at (grammar_of state) (drop at text) ≡ place_from p.to (grammar_of p.state) (drop p.to text)
+  pub the-piece : pieces at (grammar_of state) (drop at text) ≡ record { role = meant p.role; from = at; word = slice at p.to text } ∷ pieces p.to (grammar_of p.state) (drop p.to text)
+
+-- the piece from the place `at` on, read at a state, if there is one
+abbrev pub PieceAt : List ℕ → ℕ → ℕ → Option Part → Type 0
+PieceAt text at state None = NoPiece text at state
+PieceAt text at state (Some p) = IsPiece text at state p

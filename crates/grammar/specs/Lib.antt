@@ -2,4 +2,5 @@ pub mod Grammar
 pub mod Place
 pub mod Pieces
 pub mod States
+pub mod Roles
 pub mod Automaton

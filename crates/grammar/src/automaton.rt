@@ -1,8 +1,10 @@
 // The automaton that reads scripts byte by byte: its table, and one step of it.
 ghost use Rattle.std.specs.Prelude.{◌≡◌};
 ghost use Rattle.grammar.specs.Place.{ends};
-ghost use Rattle.grammar.specs.Automaton.{role_in, Steps, IsTable};
+ghost use Rattle.grammar.specs.Automaton.{role_in, Moves, IsTable};
 ghost use Rattle.grammar.specs.States.{grammar_of};
+
+use super::role::Role;
 
 // Bytes of one class are alike to the grammar. A row has a next state for each class, then a role, then whether the text may end.
 const CLASSES: usize = 34;
@@ -281,11 +283,11 @@ const TABLE: [u8; SIZE] = *b"\
     \x00\x00\x00\x00\x00\x00\x00\x00\x00\x00\x00\x00\x00\x00\x00\x00\x00\x00\x00\x00\x00\x00\x00\x00\x00\x00\x00\x00\x00\x00\x00\x00\x00\x00\x00\x00\
 ";
 
-// Where a byte leads: the next state, 0 where it is refused, and the number of the byte's role.
+// Where a byte leads: the next state, and the byte's role.
 #[derive(Clone, Copy)]
 pub struct Move {
     pub to: u8,
-    pub role: u8,
+    pub role: Role,
 }
 
 // The table, to be lent to whoever reads by it.
@@ -316,16 +318,19 @@ fn role_in(r: u8, class: usize) -> u8
     r
 }
 
-// Where the byte b leads from a state.
-pub fn step(table: &[u8; SIZE], state: u8, b: u8) -> Move
+// Where the byte b leads from a state; None where it is refused.
+pub fn step(table: &[u8; SIZE], state: u8, b: u8) -> Option<Move>
     requires { IsTable table.now }
-    ensures { Steps state b result.to result.role }
+    ensures { Moves state b result }
 {
     let row = 256 + state as usize * ROW;
     let class = table[b as usize] as usize;
-    Move {
-        to: table[row + class],
-        role: role_in(table[row + CLASSES], class),
+    match table[row + class] {
+        0 => None,
+        to => Some(Move {
+            to,
+            role: Role::from(role_in(table[row + CLASSES], class)),
+        }),
     }
 }
 

@@ -3,6 +3,7 @@ use mathlib.Core.Path.{◌≡◌, refl, sym, ap, ap₂, ◌∙◌, subst}
 use mathlib.Core.Bool.{Bool, true, false, not, ◌&&◌, cond}
 use mathlib.Core.List.{List, [], ◌∷◌, ◌++◌}
 use mathlib.Core.Option.{Option, none, some}
+use Rattle.std.specs.Prelude.{Option as Spelt, None, Some}
 use Prim.Native.Nat.{ℕ, zero, suc, ◌+◌, ◌-◌, ◌*◌, ◌/◌, ◌%◌, ◌≤◌, ◌<◌}
 use native.Mathlib.Omega.{arith}
 use mir.Facts.{and_yes, yes_and, ltb_yes, leb_yes, eqb_yes, eqb_no}
@@ -11,6 +12,8 @@ use lib.IntN.{ℤ, pos, negsuc, nat_abs}
 use lib.ListN.{length, take, drop, length-append, length-drop}
 use lib.Seq.{take_all, take-append-le, drop-drop, drop-append-le}
 use Rattle.laws.proofs.Tests.{is_true, never}
+use Rattle.meaning.specs.declared.Refusal.{Refusal}
+use Rattle.meaning.specs.declared.Refusal.TheVariants.{Events, Clauses, Triples, Itself, Script}
 use Rattle.meaning.specs.Limits.{most_events, most_clauses, most_in_clause, most_alternatives, most_bound}
 use Rattle.meaning.specs.Problem.{Alternative, Clause}
 use Rattle.meaning.specs.Screen.{Lent, alternatives, parted, clauses_of, stepped, events, bounds, is_event, are_events, are_apart, is_bound, problem_tests, problem_refusal}
@@ -204,7 +207,7 @@ accepts p R (a, r) =
     none-failed _ (sizes, (le→leb (length R.counts) most_clauses r.few-clauses, (numbers, (rw all r.steps, (rw whole_again at a.named, (a.apart, (r.bounded, tt)))))))
 
 -- ---- what a piece gives, if it is taken
-pub unless-going : (ok : Bool) (number place : ℕ) (r Q : Read) → unless ok number place r ≡ going Q → T ok × (r ≡ Q)
+pub unless-going : (ok : Bool) (number : Refusal) (place : ℕ) (r Q : Read) → unless ok number place r ≡ going Q → T ok × (r ≡ Q)
 unless-going true number place r Q p = (tt, cc)
 unless-going false number place r Q p = absurd (never (cc))
 
@@ -216,9 +219,9 @@ event-going second from w R Q p = go (is_declared R.names w) (λ t. ltb_yes t) p
     event : ℕ
     event = event_of R.names w
 
-    go : (ok : Bool) → (T ok → event < length R.names) → cond ok (unless (not (is_again second R.x event)) 12 0 (found second event R)) (refused 20 from) ≡ going Q → (event < length R.names) × T (not (is_again second R.x event)) × (found second event R ≡ Q)
+    go : (ok : Bool) → (T ok → event < length R.names) → cond ok (unless (not (is_again second R.x event)) Itself 0 (found second event R)) (refused Script from) ≡ going Q → (event < length R.names) × T (not (is_again second R.x event)) × (found second event R ≡ Q)
     go false f q = absurd (never (cc))
-    go true f q = let two = unless-going (not (is_again second R.x event)) 12 0 (found second event R) Q q in (f tt, two.0, two.1)
+    go true f q = let two = unless-going (not (is_again second R.x event)) Itself 0 (found second event R) Q q in (f tt, two.0, two.1)
 
 bound-kept : (negated : Bool) (v : ℕ) → v ≤ most_bound → T (is_bound (signed negated v))
 bound-kept false v h = le→leb v most_bound h
@@ -233,7 +236,7 @@ module _ (h : ℕ) (p e : Bool) (R : Read) (g : Good h p e R) where
   module _ (W : ℕ → Bool → Bool → Type 0) (Q : Read) where
     new-good : (from : ℕ) (w : List ℕ) → W h p e → with_new from w R ≡ going Q → Goes W Q
     unfolding with_new
-    new-good from w t q = subst (Goes W) (unless-going (is_new R.names w) 20 from _ Q q).1 (h, p, e, t, g)
+    new-good from w t q = subst (Goes W) (unless-going (is_new R.names w) Script from _ Q q).1 (h, p, e, t, g)
 
     -- the first name of an atom leaves it open which event comes second; the second is another
     event-good : (second : Bool) (from : ℕ) (w : List ℕ) → W h second e → with_event second from w R ≡ going Q → Goes W Q
@@ -252,10 +255,10 @@ module _ (h : ℕ) (p e : Bool) (R : Read) (g : Good h p e R) where
             let a = g.0 in
             (record { few = a.few; some-name = a.some-name; x-named = a.x-named; y-named = omega arith; other-named = λ t same. eqb_no o (sym same); named = a.named; apart = a.apart }, g.1)
 
-    bound-good : (negated : Bool) (o : Option ℕ) → ((v : ℕ) → o ≡ some v → v ≤ most_bound) → (h < 4) × T p × W (suc h) p e → with_bound negated o R ≡ going Q → Goes W Q
+    bound-good : (negated : Bool) (o : Spelt ℕ) → ((v : ℕ) → o ≡ Some v → v ≤ most_bound) → (h < 4) × T p × W (suc h) p e → with_bound negated o R ≡ going Q → Goes W Q
     unfolding with_bound
-    bound-good negated none f t q = absurd (never (cc))
-    bound-good negated (some v) f t q =
+    bound-good negated None f t q = absurd (never (cc))
+    bound-good negated (Some v) f t q =
         let a = g.0 in
         let r = g.1 in
         let room : ℕ = suc (length R.names - 1) in
@@ -296,7 +299,7 @@ module _ (h : ℕ) (p e : Bool) (R : Read) (g : Good h p e R) where
         let a = g.0 in
         let n : ℕ = length R.names in
         let names : List (List ℕ) = R.names ++ (R.new ∷ []) in
-        let two = unless-going (leb (length names) most_events) 1 0 _ Q q in
+        let two = unless-going (leb (length names) most_events) Events 0 _ Q q in
         let few-names : length names ≤ most_events = leb_yes two.0 in
         let longer : length names ≡ n + 1 = length-append R.names (R.new ∷ []) in
         subst (Goes W) two.1 (
@@ -328,12 +331,12 @@ module _ (h : ℕ) (p e : Bool) (R : Read) (g : Good h p e R) where
         S : Read
         S = record { names = R.names; new = R.new; x = R.x; y = R.y; triples = R.triples; counts = counts }
 
-        go : (x : Bool) → (T x → length counts ≤ most_clauses) → cond x (unless (leb (length R.triples) (3 * most_alternatives)) 3 0 S) (refused 2 0) ≡ going Q → Goes W Q
+        go : (x : Bool) → (T x → length counts ≤ most_clauses) → cond x (unless (leb (length R.triples) (3 * most_alternatives)) Triples 0 S) (refused Clauses 0) ≡ going Q → Goes W Q
         go false f q = absurd (never (cc))
         go true f q =
             let r = g.1 in
             let k : ℕ = length R.triples / 3 in
-            let two = unless-going (leb (length R.triples) (3 * most_alternatives)) 3 0 S Q q in
+            let two = unless-going (leb (length R.triples) (3 * most_alternatives)) Triples 0 S Q q in
             let most : length R.triples ≤ 3 * most_alternatives = leb_yes two.0 in
             let is : k ≡ r.last + h = omega (arith, r.since) in
             subst (Goes W) two.1 (
@@ -359,7 +362,7 @@ module _ (h : ℕ) (p e : Bool) (R : Read) (g : Good h p e R) where
     unfolding with_check
     check-good t q =
         let a = g.0 in
-        let two = unless-going (leb 1 (length R.names)) 1 0 R Q q in
+        let two = unless-going (leb 1 (length R.names)) Events 0 R Q q in
         subst (Goes W) two.1 (
           h,
           p,

@@ -5,6 +5,7 @@ use Prim.Native.Nat.{ℕ, zero, suc, ◌+◌, ◌-◌, ◌/◌, ◌%◌}
 use Prim.Native.String.{String}
 use lib.IntN.{pos, neg_ℤ}
 use lib.ListN.{length}
+use Rattle.meaning.specs.declared.Refusal.TheVariants.{Events, Clauses, Triples, Bound, Itself, Script}
 use Rattle.meaning.specs.Limits.{most_events}
 use Rattle.dialogue.specs.Words.{are_digits, value_from, digits_from, unsigned_of}
 use Rattle.grammar.specs.Grammar.{role_no, bytes, among, is_a, spelled, blank, gap, parting, opening, closing_as, symbol_as, numeral_as, bound, difference, atom, optional, held, declared, command, set_logic, check_sat, script}
@@ -46,9 +47,9 @@ worked :
     ∷ "(declare-fun abcdefghijklmnopqrstuvwxyz012345 () Int)(check-sat)x" ∷ "(declare-fun abcdefghijklmnopqrstuvwxyz0123456 () Int)"
     ∷ "(assert(<=(- x y)100001" ∷ "(assert(<=(- x y)(- 99999999999999999999))x" ∷ "(assert(<=(- x y)100000x" ∷ "(assert(<=(- x y)03" ∷ "(check-sat" ∷ [])
     ≡ going (record { names = bytes "x" ∷ bytes "y" ∷ []; new = bytes "y"; x = 1; y = 0; triples = pos 0 ∷ pos 1 ∷ pos 100000 ∷ pos 1 ∷ pos 0 ∷ pos 0 ∷ []; counts = 2 ∷ 2 ∷ [] })
-    ∷ refused 20 74 ∷ refused 20 74 ∷ refused 20 74 ∷ refused 20 74 ∷ refused 20 74 ∷ refused 20 74
-    ∷ refused 20 123 ∷ refused 20 72
-    ∷ refused 6 0 ∷ refused 6 0 ∷ refused 20 82 ∷ refused 20 77 ∷ refused 20 69 ∷ []
+    ∷ refused Script 74 ∷ refused Script 74 ∷ refused Script 74 ∷ refused Script 74 ∷ refused Script 74 ∷ refused Script 74
+    ∷ refused Script 123 ∷ refused Script 72
+    ∷ refused Bound 0 ∷ refused Bound 0 ∷ refused Script 82 ∷ refused Script 77 ∷ refused Script 69 ∷ []
 unfolding after_both begun answer_to bytes among is_a role_no spelled blank gap parting opening closing_as symbol_as numeral_as bound difference atom optional held declared command set_logic check_sat script ends live follow is_none choose after role_of place_from join_to pieces same_word kept_words one_of event_of is_new are_digits value_from digits_from unsigned_of with_new with_event with_bound with_name with_clause with_check read_piece read_all settled answer_at
 worked = refl
 
@@ -57,7 +58,7 @@ worked = refl
 against-itself :
     after_both (
     "(assert(or(<=(- x y)0)(<=(- y y)0)))(check-sat)" ∷ "(assert(<=(- x x" ∷ "(assert(<=(- y y)100001" ∷ "(assert(<=(- y y(" ∷ "(assert(<=(- z z" ∷ "(assert(<=(- x xx" ∷ "(assert(or(<=(- x y)100001)(<=(- x x" ∷ [])
-    ≡ refused 12 0 ∷ refused 12 0 ∷ refused 12 0 ∷ refused 12 0 ∷ refused 20 72 ∷ refused 20 74 ∷ refused 6 0 ∷ []
+    ≡ refused Itself 0 ∷ refused Itself 0 ∷ refused Itself 0 ∷ refused Itself 0 ∷ refused Script 72 ∷ refused Script 74 ∷ refused Bound 0 ∷ []
 unfolding after_both begun answer_to bytes among is_a role_no spelled blank gap parting opening closing_as symbol_as numeral_as bound difference atom optional held declared command set_logic check_sat script ends live follow is_none choose after role_of place_from join_to pieces same_word kept_words one_of event_of is_new are_digits value_from digits_from unsigned_of with_new with_event with_bound with_name with_clause with_check read_piece read_all settled answer_at
 against-itself = refl
 
@@ -69,7 +70,7 @@ sizes :
     ∷ (begun ++ copies 33 "(assert false)")
     ∷ (begun ++ copies 17 "(assert(or(<=(- x y)0)(<=(- x y)0)(<=(- x y)0)(<=(- x y)0)))")
     ∷ (begun ++ (copies 16 "(assert(or(<=(- x y)0)(<=(- x y)0)(<=(- x y)0)(<=(- x y)0)))" ++ (copies 16 "(assert false)" ++ bytes "(assert(<=(- x y)0))"))) ∷ [])
-    ≡ refused 20 14 ∷ refused 1 0 ∷ refused 2 0 ∷ refused 3 0 ∷ refused 2 0 ∷ []
+    ≡ refused Script 14 ∷ refused Events 0 ∷ refused Clauses 0 ∷ refused Triples 0 ∷ refused Clauses 0 ∷ []
 unfolding copies begun answer_to bytes among is_a role_no spelled blank gap parting opening closing_as symbol_as numeral_as bound difference atom optional held declared command set_logic check_sat script ends live follow is_none choose after role_of place_from join_to pieces same_word kept_words one_of event_of is_new are_digits value_from digits_from unsigned_of with_new with_event with_bound with_name with_clause with_check read_piece read_all settled answer_at
 sizes = refl
 
@@ -95,6 +96,6 @@ almost = up_to most_events ++ bytes "(declare-const x Int"
 -- as many declarations as there may be events are read; one more is refused with 1 at its end, and no sooner
 declared-events :
     map answer_to ((up_to most_events ++ bytes "(check-sat)") ∷ up_to (most_events + 1) ∷ almost ∷ [])
-    ≡ going (record { names = names_from 0 most_events; new = name (most_events - 1); x = 0; y = 0; triples = []; counts = [] }) ∷ refused 1 0 ∷ refused 20 (length almost) ∷ []
+    ≡ going (record { names = names_from 0 most_events; new = name (most_events - 1); x = 0; y = 0; triples = []; counts = [] }) ∷ refused Events 0 ∷ refused Script (length almost) ∷ []
 unfolding name names_from declarations up_to almost answer_to bytes among is_a role_no spelled blank gap parting opening closing_as symbol_as numeral_as bound difference atom optional held declared command set_logic check_sat script ends live follow is_none choose after role_of place_from join_to pieces same_word kept_words one_of event_of is_new are_digits value_from digits_from unsigned_of with_new with_event with_bound with_name with_clause with_check read_piece read_all settled answer_at
 declared-events = refl

@@ -2,7 +2,7 @@
 use mathlib.Core.Path.{◌≡◌, refl, sym, ap, ◌∙◌, subst}
 use mathlib.Core.Bool.{Bool, true, false, cond}
 use mathlib.Core.List.{List, [], ◌∷◌, ◌++◌, append-nil, append_assoc}
-use mathlib.Core.Option.{Option, none, some}
+use Rattle.std.specs.Prelude.{Option as Spelt, None, Some}
 use Prim.Native.Nat.{ℕ, suc, ◌+◌, ◌-◌, ◌*◌, ◌/◌, ◌≤◌, ◌<◌}
 use native.Mathlib.Omega.{arith}
 use lib.Dec.{leb}
@@ -10,6 +10,7 @@ use lib.IntN.{ℤ, pos, neg_ℤ}
 use lib.ListN.{length, drop, length-append, drop_of_length-le}
 use lib.Seq.{drop-append-le}
 use Rattle.laws.proofs.Tests.{never}
+use Rattle.meaning.specs.declared.Refusal.TheVariants.{Events, Clauses, Triples, Script}
 use Rattle.meaning.specs.Limits.{most_events, most_clauses, most_alternatives, most_bound}
 use Rattle.meaning.specs.Screen.{alternatives, parted, clauses_of}
 use Rattle.meaning.proofs.Accepted.{alternatives-count}
@@ -73,7 +74,7 @@ module _ (h : ℕ) (R : Read) (s : List (List ℕ) → Said) (r : Counted h R.tr
         record { x-is = p.x-is; y-is = event-kept R.names more w l; many-are = p.many-are; clause-is = p.clause-is; clauses-are = p.clauses-are }
 
   -- a bound: the open clause gains the alternative that the triples gain, and no clause ends
-  bound-said : (negated : Bool) (v : ℕ) → Says (suc h) (bounded R negated v) (λ names. say_bound negated (some v) (s names))
+  bound-said : (negated : Bool) (v : ℕ) → Says (suc h) (bounded R negated v) (λ names. say_bound negated (Some v) (s names))
   unfolding say_bound clauses_of
   bound-said negated v more =
       let p = f more in
@@ -113,34 +114,34 @@ module _ (h : ℕ) (R : Read) (s : List (List ℕ) → Said) (r : Counted h R.tr
     same-says : {S : Read} (k : ℕ) (said : List (List ℕ) → Said) → S ≡ Q → Says k S said → Says k Q said
     same-says k said same p = subst (λ (S : Read). Says k S said) same p
 
-    bound-says : (negated : Bool) (o : Option ℕ) → with_bound negated o R ≡ going Q → Says (suc h) Q (λ names. say_bound negated o (s names))
+    bound-says : (negated : Bool) (o : Spelt ℕ) → with_bound negated o R ≡ going Q → Says (suc h) Q (λ names. say_bound negated o (s names))
     unfolding with_bound
-    bound-says negated none p = absurd (never (cc))
-    bound-says negated (some v) p =
+    bound-says negated None p = absurd (never (cc))
+    bound-says negated (Some v) p =
         let same : bounded R negated v ≡ Q = cc in
-        same-says (suc h) (λ names. say_bound negated (some v) (s names)) same (bound-said negated v)
+        same-says (suc h) (λ names. say_bound negated (Some v) (s names)) same (bound-said negated v)
 
     clause-says : (w : List ℕ) → with_clause R ≡ going Q → Says 0 Q (with assert_end w s)
     unfolding with_clause
     clause-says w p = go (leb (length (claused R).counts) most_clauses) p
       where
-        go : (x : Bool) → cond x (unless (leb (length R.triples) (3 * most_alternatives)) 3 0 (claused R)) (refused 2 0) ≡ going Q → Says 0 Q (with assert_end w s)
+        go : (x : Bool) → cond x (unless (leb (length R.triples) (3 * most_alternatives)) Triples 0 (claused R)) (refused Clauses 0) ≡ going Q → Says 0 Q (with assert_end w s)
         go false q = absurd (never (cc))
-        go true q = same-says 0 (with assert_end w s) (unless-going (leb (length R.triples) (3 * most_alternatives)) 3 0 (claused R) Q q).1 (clause-said w)
+        go true q = same-says 0 (with assert_end w s) (unless-going (leb (length R.triples) (3 * most_alternatives)) Triples 0 (claused R) Q q).1 (clause-said w)
 
     -- the role says how many alternatives then stand past the last count
     module _ (o e : Bool) (W : ℕ → Bool → Bool → Type 0) (from : ℕ) (w : List ℕ) where
       piece-says : (role : Role) → Taken role h o e W → read_piece role from w R ≡ going Q → Taken role h o e (λ k u x. W k u x × Says k Q (with role w s))
       unfolding read_piece with_new with_name with_check say_piece
       piece-says other t p = let same : R ≡ Q = cc in (t, same-says h (with other w s) same f)
-      piece-says new_name t p = (t, same-says h (with new_name w s) (unless-going (is_new R.names w) 20 from (renamed R w) Q p).1 f)
+      piece-says new_name t p = (t, same-says h (with new_name w s) (unless-going (is_new R.names w) Script from (renamed R w) Q p).1 f)
       piece-says first_name t p = let three = event-going false from w R Q p in (t, same-says h (with first_name w s) three.2 (first_said w three.0))
       piece-says second_name t p = let three = event-going true from w R Q p in (t, same-says h (with second_name w s) three.2 (second-said w three.0))
       piece-says bound_digit t p = (t.0, t.1, (t.2, bound-says false (unsigned_of most_bound w) p))
       piece-says negated_digit t p = (t.0, t.1, (t.2, bound-says true (unsigned_of most_bound w) p))
-      piece-says declaration_end t p = (t, same-says h (with declaration_end w s) (unless-going (leb (length (named R).names) most_events) 1 0 (named R) Q p).1 (λ more. rw append_assoc (f (R.new ∷ more))))
+      piece-says declaration_end t p = (t, same-says h (with declaration_end w s) (unless-going (leb (length (named R).names) most_events) Events 0 (named R) Q p).1 (λ more. rw append_assoc (f (R.new ∷ more))))
       piece-says assert_end t p = (t, clause-says w p)
-      piece-says check_end t p = (t, same-says h (with check_end w s) (unless-going (leb 1 (length R.names)) 1 0 R Q p).1 f)
+      piece-says check_end t p = (t, same-says h (with check_end w s) (unless-going (leb 1 (length R.names)) Events 0 R Q p).1 f)
 
 -- ---- the whole script
 -- Piece by piece: what was said before it is what was read, and so what is said with it; at the end no more names come.

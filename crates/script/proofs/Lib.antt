@@ -4,6 +4,7 @@ pub mod Wording
 pub mod Declaring
 pub mod Taking
 pub mod Going
+pub mod Refusals
 pub mod Faults
 pub mod Accepting
 pub mod Clauses

@@ -4,7 +4,7 @@ use mathlib.Core.Path.{◌≡◌, refl, sym, ap, ◌∙◌}
 use mathlib.Core.Bool.{Bool, true, false, ◌&&◌, not, cond}
 use mathlib.Core.List.{List, [], ◌∷◌, ◌++◌}
 use mathlib.Core.Logic.{by_cases}
-use mathlib.Core.Option.{some}
+use Rattle.std.specs.Prelude.{Some}
 use Prim.Native.Nat.{ℕ, zero, suc, ◌≤◌, ◌<◌, ◌^◌}
 use native.Mathlib.Decide.{ℕ_discrete}
 use native.Mathlib.Omega.{arith}
@@ -70,7 +70,7 @@ name-one : (i e : ℕ) → i < most_events → e < most_events → name_of i ≡
 unfolding name_of bytes
 name-one i e h k p =
     let digits : decimal i ≡ decimal e = cc in
-    let both : some i ≡ some e = sym (reads-back most_events i (omega arith) (omega arith)) ∙ ap (unsigned_of most_events) digits ∙ reads-back most_events e (omega arith) (omega arith) in
+    let both : Some i ≡ Some e = sym (reads-back most_events i (omega arith) (omega arith)) ∙ ap (unsigned_of most_events) digits ∙ reads-back most_events e (omega arith) (omega arith) in
     cc
 
 -- a name more at the end, where those before it are others

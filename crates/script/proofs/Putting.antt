@@ -1,5 +1,5 @@
 -- Laws by which the parts of a text are put one after another: a bound by its sign, and what remains of a list of parts. Assumes nothing.
-use mathlib.Core.Path.{◌≡◌, refl}
+use mathlib.Core.Path.{◌≡◌, refl, ap}
 use mathlib.Core.Bool.{true, false}
 use mathlib.Core.List.{List, [], ◌∷◌, ◌++◌, map}
 use Prim.Native.Nat.{ℕ, suc, ◌+◌, ◌*◌, ◌-◌, ◌≤◌, ◌<◌}
@@ -18,7 +18,7 @@ use Rattle.meaning.proofs.Accepted.{first_count}
 use Rattle.problem.proofs.Counts.{count_under}
 use Rattle.dialogue.specs.Written.{decimal, led}
 use Rattle.grammar.specs.Grammar.{bytes}
-use Rattle.script.specs.Text.{declaration_of, declarations_from, bound_of, atom_text, held_of, assert_of, asserts_of}
+use Rattle.script.specs.Text.{declaration_of, declarations_from, bound_of, atom_of, atom_text, held_of, assert_of, asserts_of}
 use Rattle.script.proofs.Parting.{take-alternatives, drop-alternatives, atoms-alike}
 
 -- ---- a bound, by its sign
@@ -42,6 +42,27 @@ declarations-on e n h =
 pub declarations-off : (e n : ℕ) → n ≤ e → declarations_from e (n - e) ≡ []
 unfolding declarations_from
 declarations-off e n h = let none_left : n - e ≡ 0 = omega arith in rw none_left
+
+-- ---- the atoms that remain
+-- the atoms of triples, each led by a space
+abbrev pub atoms : List ℤ → List ℕ
+atoms ts = led (map atom_text (alternatives 0 ts))
+
+-- a space and the atom of the first three, and then those of the others
+pub atoms-on : (part next : List ℤ) → length part ≡ 3 → atoms (part ++ next) ≡ (32 ∷ []) ++ (atom_of (nat_abs (get_or part 0 (pos 0))) (nat_abs (get_or part 1 (pos 0))) (get_or part 2 (pos 0)) ++ atoms next)
+unfolding alternatives led
+atoms-on [] next e = absurd (omega arith)
+atoms-on (x ∷ []) next e = absurd (omega arith)
+atoms-on (x ∷ (y ∷ [])) next e = absurd (omega arith)
+atoms-on (x ∷ (y ∷ (c ∷ []))) next e = ap (λ (l : List (List ℕ)). 32 ∷ (atom_of (nat_abs x) (nat_abs y) c ++ led l)) (atoms-alike 1 0 next)
+atoms-on (x ∷ (y ∷ (c ∷ (d ∷ more)))) next e = absurd (omega arith)
+
+pub atoms-off : (ts : List ℤ) → length ts < 3 → atoms ts ≡ []
+unfolding alternatives led
+atoms-off [] h = refl
+atoms-off (x ∷ []) h = refl
+atoms-off (x ∷ (y ∷ [])) h = refl
+atoms-off (x ∷ (y ∷ (c ∷ more))) h = absurd (omega arith)
 
 -- ---- what an assert holds, by how many alternatives there are
 pub held_none : (c : Clause) → length c ≡ 0 → held_of (map atom_text c) ≡ bytes "false"

@@ -15,8 +15,8 @@ use Rattle.laws.proofs.Tests.{is_true}
 use Rattle.grammar.specs.Grammar.{Role, other, role_no, Grammar}
 use Rattle.grammar.specs.Place.{live, after, role_of, place_from}
 use Rattle.grammar.specs.Pieces.{Piece, join_to, pieces}
-use Rattle.grammar.proofs.Same.{same, is_equal, equal_is}
-use Rattle.grammar.proofs.Parts.{role-eq, join-join, join_apart}
+use Rattle.grammar.proofs.Same.{role-eq, same, is_equal, equal_is}
+use Rattle.grammar.proofs.Parts.{join-join, join_apart}
 use Rattle.grammar.proofs.Places.{after_all}
 use Rattle.script.specs.Reading.{Read, Answer, going, read_piece, read_all, settled}
 

@@ -1,18 +1,23 @@
 -- What a piece makes of the notes: a refusal, or notes that stand for what was read with it. Assumes nothing.
-use mathlib.Core.Path.{◌≡◌, refl, sym, subst}
+use mathlib.Core.Path.{◌≡◌, sym, ap, subst}
 use mathlib.Core.Bool.{Bool, true, false}
 use mathlib.Core.List.{List, [], ◌∷◌, ◌++◌}
-use mathlib.Core.Option.{Option, none, some}
+use Rattle.std.specs.Prelude.{Option as Spelt, None, Some}
 use Prim.Native.Nat.{ℕ, ◌*◌, ◌/◌, ◌≤◌, ◌<◌}
 use native.Mathlib.Omega.{arith}
 use lib.IntN.{pos}
 use lib.ListN.{length, length-append}
 use borrow.Author.Tests.{lt-leb, le-leb, lt-ltb, le-ltb}
+use Rattle.meaning.specs.declared.Refusal.{Refusal}
+use Rattle.meaning.specs.declared.Refusal.TheVariants.{Events, Clauses, Triples, Bound, Itself, Script}
 use Rattle.meaning.specs.Limits.{most_events, most_clauses, most_alternatives}
+use Rattle.std.specs.Prelude.{Ok, Err}
+use Rattle.script.specs.declared.names.Span.{Span}
 use Rattle.script.specs.declared.reading.Notes.{Notes}
+use Rattle.script.specs.declared.Refused.{Refused}
 use Rattle.script.specs.Words.{event_of, is_new}
 use Rattle.script.specs.Reading.{Read, Answer, going, refused, signed, with_new, found, is_again, with_event, with_bound, with_name, with_clause}
-use Rattle.script.specs.Notes.{Kept, Stands, noted, Tells, Ready, Took}
+use Rattle.script.specs.Notes.{Lies, Kept, Stands, noted, Tells, Ready, Took}
 
 -- ---- what was read, with a name
 abbrev pub renamed : Read → List ℕ → Read
@@ -22,7 +27,7 @@ renamed R w = record { names = R.names; new = w; x = R.x; y = R.y; triples = R.t
 module _ (R : Read) where
   -- ---- names
   module _ (from : ℕ) (w : List ℕ) where
-    pub new-refused : is_new R.names w ≡ false → with_new from w R ≡ refused 20 from
+    pub new-refused : is_new R.names w ≡ false → with_new from w R ≡ refused Script from
     unfolding with_new
     new-refused e = rw e
 
@@ -31,12 +36,12 @@ module _ (R : Read) where
     new-taken e = rw e
 
     module _ (second : Bool) where
-      pub event-refused : length R.names ≤ event_of R.names w → with_event second from w R ≡ refused 20 from
+      pub event-refused : length R.names ≤ event_of R.names w → with_event second from w R ≡ refused Script from
       unfolding with_event
       event-refused h = rw (le-ltb (event_of R.names w) (length R.names) h)
 
       module _ (h : event_of R.names w < length R.names) where
-        pub event-again : is_again second R.x (event_of R.names w) ≡ true → with_event second from w R ≡ refused 12 0
+        pub event-again : is_again second R.x (event_of R.names w) ≡ true → with_event second from w R ≡ refused Itself 0
         unfolding with_event
         event-again e = rw (lt-ltb (event_of R.names w) (length R.names) h, e)
 
@@ -45,7 +50,7 @@ module _ (R : Read) where
         event-taken e = rw (lt-ltb (event_of R.names w) (length R.names) h, e)
 
   -- ---- bounds and ends
-  pub name-refused : most_events ≤ length R.names → with_name R ≡ refused 1 0
+  pub name-refused : most_events ≤ length R.names → with_name R ≡ refused Events 0
   unfolding with_name
   name-refused h = rw (lt-leb (length (R.names ++ (R.new ∷ []))) most_events (simp (length-append) (omega arith)))
 
@@ -60,22 +65,22 @@ module _ (R : Read) where
   bounded negated v =
       record { names = R.names; new = R.new; x = R.x; y = R.y; triples = R.triples ++ (pos R.x ∷ pos R.y ∷ signed negated v ∷ []); counts = R.counts }
 
-  pub bound-taken : (negated : Bool) (v : ℕ) (o : Option ℕ) → o ≡ some v → with_bound negated o R ≡ going (bounded negated v)
+  pub bound-taken : (negated : Bool) (v : ℕ) (o : Spelt ℕ) → o ≡ Some v → with_bound negated o R ≡ going (bounded negated v)
   unfolding with_bound
   bound-taken negated v o e = rw e
 
-  pub bound-refused : (negated : Bool) (o : Option ℕ) → o ≡ none → with_bound negated o R ≡ refused 6 0
+  pub bound-refused : (negated : Bool) (o : Spelt ℕ) → o ≡ None → with_bound negated o R ≡ refused Bound 0
   unfolding with_bound
   bound-refused negated o e = rw e
 
   abbrev closed : List ℕ
   closed = R.counts ++ (length R.triples / 3 ∷ [])
 
-  pub clause-refused : most_clauses ≤ length R.counts → with_clause R ≡ refused 2 0
+  pub clause-refused : most_clauses ≤ length R.counts → with_clause R ≡ refused Clauses 0
   unfolding with_clause
   clause-refused h = rw (lt-leb (length closed) most_clauses (simp (length-append) (omega arith)))
 
-  pub clause-too-long : length R.counts < most_clauses → 3 * most_alternatives < length R.triples → with_clause R ≡ refused 3 0
+  pub clause-too-long : length R.counts < most_clauses → 3 * most_alternatives < length R.triples → with_clause R ≡ refused Triples 0
   unfolding with_clause
   clause-too-long h k = rw (le-leb (length closed) most_clauses (simp (length-append) (omega arith)), lt-leb (length R.triples) (3 * most_alternatives) k)
 
@@ -87,41 +92,31 @@ module _ (R : Read) where
   clause-taken h k = rw (le-leb (length closed) most_clauses (simp (length-append) (omega arith)), le-leb (length R.triples) (3 * most_alternatives) k)
 
 -- ---- a piece is read
-module _ (text : List ℕ) (from to : ℕ) (r : Notes) (ready : Ready text from to r) where
+module _ (text : List ℕ) (piece : Span) (r : Notes) (ready : Ready text piece r) where
+  -- the piece is a word of the text
+  pub piece-lies : Lies text piece
+  piece-lies = record { order = omega (arith, ready.some); inside = ready.inside }
+
   -- the notes are kept at the piece's end too
-  pub kept_on : Kept text to r
+  pub kept_on : Kept text piece.to r
   kept_on =
       let k = ready.kept in
-      record {
-        names-within = k.names-within;
-        new-order = k.new-order;
-        new-inside = k.new-inside;
-        few-clauses = k.few-clauses;
-        few = omega (arith, k.few, ready.some);
-      }
+      record { names-within = k.names-within; new-within = k.new-within; few-clauses = k.few-clauses; few = omega (arith, k.few, ready.some) }
 
   -- it is refused
-  pub took-refused : (read : Read → Answer) (number place : ℕ) → 0 < number → ((R : Read) → Stands text r R → read R ≡ refused number place) → Took text read r to (record { number = number; place = place; notes = r })
-  took-refused read number place h f =
-      record {
-        kept = λ z. absurd (omega arith);
-        tells = λ R s. subst (λ (a : Answer). Tells text a (record { number = number; place = place; notes = r })) (sym (f R s)) (h, refl, refl);
-      }
+  pub took-refused : (read : Read → Answer) (e : Refusal) (place : ℕ) {d : Refused} → d ≡ record { refusal = e; place = place } → ((R : Read) → Stands text r R → read R ≡ refused e place) → Took text read r piece.to (Err d)
+  took-refused read e place {d} q f = record { kept = tt; tells = λ R s. subst (λ (a : Answer). Tells text a (Err d)) (sym (f R s)) (ap Err q) }
 
   -- it is taken, and leaves other notes
-  pub took-going : (read : Read → Answer) (next : Notes) (made : Read → Read) → Kept text to next → ((R : Read) → Stands text r R → read R ≡ going (made R)) → ((R : Read) → Stands text r R → Stands text next (made R)) → Took text read r to (record { number = 0; place = 0; notes = next })
-  took-going read next made k f g =
-      record {
-        kept = λ z. k;
-        tells = λ R s. subst (λ (a : Answer). Tells text a (record { number = 0; place = 0; notes = next })) (sym (f R s)) (refl, g R s);
-      }
+  pub took-going : (read : Read → Answer) (next : Notes) (made : Read → Read) → Kept text piece.to next → ((R : Read) → Stands text r R → read R ≡ going (made R)) → ((R : Read) → Stands text r R → Stands text next (made R)) → Took text read r piece.to (Ok next)
+  took-going read next made k f g = record { kept = k; tells = λ R s. subst (λ (a : Answer). Tells text a (Ok next)) (sym (f R s)) (g R s) }
 
 -- ---- the event of an atom's name
 module _ (text : List ℕ) (event : ℕ) where
   pub noted-kept : (second : Bool) (at : ℕ) (r : Notes) → Kept text at r → Kept text at (noted second event r)
   unfolding noted
-  noted-kept false at r k = record { names-within = k.names-within; new-order = k.new-order; new-inside = k.new-inside; few-clauses = k.few-clauses; few = k.few }
-  noted-kept true at r k = record { names-within = k.names-within; new-order = k.new-order; new-inside = k.new-inside; few-clauses = k.few-clauses; few = k.few }
+  noted-kept false at r k = record { names-within = k.names-within; new-within = k.new-within; few-clauses = k.few-clauses; few = k.few }
+  noted-kept true at r k = record { names-within = k.names-within; new-within = k.new-within; few-clauses = k.few-clauses; few = k.few }
 
   pub noted-stands : (second : Bool) (r : Notes) (R : Read) (e : ℕ) → event ≡ e → Stands text r R → Stands text (noted second event r) (found second e R)
   unfolding noted

@@ -1,14 +1,14 @@
 -- The text of a problem, line by line, and what `write_script` answers and leaves in the room: 02, A5. Definitions only.
 -- "D1 gives exactly these lines, each ended by a line feed: (set-logic QF_IDL), (declare-fun e0 () Int), (declare-fun e1 () Int),
 -- (assert (<= (- e0 e1) (- 30))), (check-sat)."
-use Rattle.std.specs.Prelude.{◌≡◌, List, [], ◌∷◌, ◌++◌, map, ℕ, zero, suc, ◌+◌, ◌*◌, ◌-◌, leb, ℤ, pos, negsuc, length, replicate}
+use Rattle.std.specs.Prelude.{◌≡◌, List, [], ◌∷◌, ◌++◌, map, ℕ, zero, suc, ◌+◌, ◌*◌, ◌-◌, leb, ℤ, pos, negsuc, length, replicate, Result, IfOk}
+use Rattle.meaning.specs.declared.Refusal.{Refusal}
+use Rattle.meaning.specs.Refusal.{told_as}
 use Rattle.meaning.specs.Limits.{most_events, most_clauses, most_alternatives}
 use Rattle.meaning.specs.Problem.{Alternative, Clause}
 use Rattle.meaning.specs.Screen.{Lent, clauses_of, problem_tests, first_failed}
 use Rattle.dialogue.specs.Written.{decimal, led}
 use Rattle.grammar.specs.Grammar.{bytes}
-use Rattle.script.specs.declared.writing.Written.{Written}
-use Rattle.script.specs.declared.writing.Written.TheVariants.{Text, Refused}
 
 -- ---- the text
 -- "events named e0, e1 and so on"
@@ -60,11 +60,6 @@ longest_text = 31 + 25 * most_events + 15 * most_clauses + 28 * most_alternative
 unfoldable pub write_refusal : Lent → ℕ → ℕ
 write_refusal l room = first_failed (problem_tests l ++ (21, leb (length (text_of l)) room) ∷ [])
 
--- the answer, by that number: the length written, or refused
-unfoldable pub answered : Lent → ℕ → Written
-answered l zero = Text (length (text_of l))
-answered l (suc number) = Refused (suc number)
-
 abbrev pub zeros : ℕ → List ℕ
 zeros k = replicate k 0
 
@@ -73,7 +68,8 @@ unfoldable pub room_after : Lent → ℕ → ℕ → List ℕ
 room_after l room zero = text_of l ++ zeros (room - length (text_of l))
 room_after l room (suc number) = zeros room
 
--- what a call with a room of so many bytes answers, and what the room then holds
-pub record Writes (l : Lent) (room : ℕ) (answer : Written) (held : List ℕ) : Type 0 where
-  pub answers : answer ≡ answered l (write_refusal l room)
+-- what a call with a room of so many bytes answers, the length written or refused, and what the room then holds
+pub record Writes (l : Lent) (room : ℕ) (answer : Result ℕ Refusal) (held : List ℕ) : Type 0 where
+  pub number : told_as answer ≡ write_refusal l room
+  pub long : IfOk answer (λ k. k ≡ length (text_of l))
   pub room-is : held ≡ room_after l room (write_refusal l room)

@@ -2,66 +2,108 @@
 ghost use Rattle.std.specs.Prelude.{◌≡◌, ◌<◌};
 ghost use Rattle.meaning.specs.Limits.{most_events};
 ghost use Rattle.script.specs.Words.{is_kept, is_new};
-ghost use Rattle.script.specs.Notes.{names_of, Within, Finds, Gains};
+ghost use Rattle.script.specs.Notes.{word_at, names_of, Lies, Within, Finds, Gains};
 
 use problem::EVENTS;
 
 // The most characters of a name.
 const CHARACTERS: usize = 32;
 
-const SPACE: u8 = 32;
+// The words that are no names.
+const KEPT: [&[u8]; 49] = [
+    b"!",
+    b"_",
+    b"as",
+    b"BINARY",
+    b"DECIMAL",
+    b"exists",
+    b"HEXADECIMAL",
+    b"forall",
+    b"let",
+    b"match",
+    b"NUMERAL",
+    b"par",
+    b"STRING",
+    b"assert",
+    b"check-sat",
+    b"check-sat-assuming",
+    b"declare-const",
+    b"declare-datatype",
+    b"declare-datatypes",
+    b"declare-fun",
+    b"declare-sort",
+    b"define-fun",
+    b"define-fun-rec",
+    b"define-funs-rec",
+    b"define-sort",
+    b"echo",
+    b"exit",
+    b"get-assertions",
+    b"get-assignment",
+    b"get-info",
+    b"get-model",
+    b"get-option",
+    b"get-proof",
+    b"get-unsat-assumptions",
+    b"get-unsat-core",
+    b"get-value",
+    b"pop",
+    b"push",
+    b"reset",
+    b"reset-assertions",
+    b"set-info",
+    b"set-logic",
+    b"set-option",
+    b"QF_IDL",
+    b"Int",
+    b"false",
+    b"or",
+    b"<=",
+    b"-",
+];
 
-// The words that are no names, each with a space after it.
-const KEPT: [u8; 455] =
-    *b"! _ as BINARY DECIMAL exists HEXADECIMAL forall let match NUMERAL par STRING \
-    assert check-sat check-sat-assuming declare-const declare-datatype declare-datatypes declare-fun declare-sort \
-    define-fun define-fun-rec define-funs-rec define-sort echo exit get-assertions get-assignment get-info \
-    get-model get-option get-proof get-unsat-assumptions get-unsat-core get-value pop push reset \
-    reset-assertions set-info set-logic set-option \
-    QF_IDL Int false or <= - ";
+// Where a word stands in the text: from `from` up to `to`.
+#[derive(Clone, Copy)]
+pub struct Span {
+    pub from: usize,
+    pub to: usize,
+}
 
-// The names declared so far: how many, and from where to where each stands in the text.
+impl Span {
+    // The word there.
+    pub fn word<'a>(self, text: &'a [u8]) -> &'a [u8]
+        requires { Lies text.now self }
+        ensures { result.now ≡ word_at text.now self }
+    {
+        &text[self.from..self.to]
+    }
+}
+
+// The names declared so far: how many, and where each stands in the text.
 #[derive(Clone, Copy)]
 pub struct Names {
     pub n: usize,
-    pub starts: [usize; EVENTS],
-    pub ends: [usize; EVENTS],
+    pub spans: [Span; EVENTS],
 }
 
 // Whether the word is reserved in SMT-LIB, or a word of the subset.
 fn is_kept(word: &[u8]) -> bool
     ensures { result ≡ is_kept word.now }
 {
-    let kept = KEPT;
-    let mut at = 0;
-    while at < kept.len() {
-        let to = dialogue::until(&kept, at, SPACE);
-        if check::same(&kept[at..to], word) {
-            return true;
-        }
-        at = to + 1;
-    }
-    false
+    KEPT.contains(&word)
 }
 
-// The number of the event that has this name; n, where none has it.
-pub fn event_of(text: &[u8], names: Names, word: &[u8]) -> usize
+// The event of the name that the word is.
+pub fn event_of(text: &[u8], names: Names, word: &[u8]) -> Option<u8>
     requires { Within text.now names }
-    ensures { Finds text.now names word.now result }
+    ensures { Finds (names_of text.now names) word.now result }
 {
-    let starts = names.starts;
-    let ends = names.ends;
-    let n = names.n;
-    let mut i = 0;
-    while i < n {
-        let from = starts[i];
-        let to = ends[i];
-        if check::same(&text[from..to], word) {
-            return i;
+    for (event, name) in names.spans[..names.n].iter().enumerate() {
+        if name.word(text) == word {
+            return Some(event as u8);
         }
-        i += 1;
     }
-    i
+    None
 }
 
 // Whether the word may be declared: short enough, no kept word, and no name yet.
@@ -69,28 +111,16 @@ pub fn is_new(text: &[u8], names: Names, word: &[u8]) -> bool
     requires { Within text.now names }
     ensures { result ≡ is_new (names_of text.now names) word.now }
 {
-    if CHARACTERS < word.len() {
-        return false;
-    }
-    if is_kept(word) {
-        return false;
-    }
-    names.n <= event_of(text, names, word)
+    word.len() <= CHARACTERS && !is_kept(word) && event_of(text, names, word).is_none()
 }
 
-// The names with one more, which stands in the text from `from` up to `to`.
-pub fn with_name(names: Names, from: usize, to: usize) -> Names
+// The names with one more, which stands in the text there.
+pub fn with_name(names: Names, name: Span) -> Names
     requires { names.n < most_events }
-    ensures { Gains names from to result }
+    ensures { Gains names name result }
 {
-    let mut starts = names.starts;
-    let mut ends = names.ends;
-    let n = names.n;
-    starts[n] = from;
-    ends[n] = to;
-    Names {
-        n: n + 1,
-        starts,
-        ends,
-    }
+    let mut more = names;
+    more.spans[names.n] = name;
+    more.n += 1;
+    more
 }

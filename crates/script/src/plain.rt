@@ -1,44 +1,28 @@
 // The plain form of the reader: the slice and the place come from the caller.
 ghost use Rattle.std.specs.Prelude.{◌≡◌, ◌≤◌};
 ghost use Rattle.meaning.specs.Limits.{most_events};
-ghost use Rattle.script.specs.Reading.{refused};
-ghost use Rattle.script.specs.Script.{told, script_at};
+ghost use Rattle.script.specs.Script.{script_at};
 ghost use Rattle.script.specs.Notes.{Blank, Says};
 
-use super::Script;
-use super::names::Names;
+use super::names::{Names, Span};
 use super::reading::{Notes, read_piece};
-use super::rules::{NUMBERS, no_rules};
+use super::rules::no_rules;
+use super::{Refused, Script};
 use grammar::{START, may_end, piece_at, table};
-use problem::{CLAUSES, EVENTS};
-
-// A refusal, with nothing read.
-fn refusal(number: u8, place: usize) -> Script
-    ensures { result ≡ told (refused number place) }
-{
-    Script {
-        number,
-        place,
-        n: 0,
-        alternatives: 0,
-        triples: [0; NUMBERS],
-        clauses: 0,
-        counts: [0; CLAUSES],
-    }
-}
+use meaning::Refusal;
+use problem::EVENTS;
 
 // The notes at a script's beginning.
 fn blank() -> Notes
     ensures { Blank result }
 {
+    let nowhere = Span { from: 0, to: 0 };
     Notes {
         names: Names {
             n: 0,
-            starts: [0; EVENTS],
-            ends: [0; EVENTS],
+            spans: [nowhere; EVENTS],
         },
-        from: 0,
-        to: 0,
+        new: nowhere,
         x: 0,
         y: 0,
         rules: no_rules(),
@@ -50,47 +34,31 @@ fn script_of(notes: Notes) -> Script
     requires { notes.names.n ≤ most_events }
     ensures { Says notes result }
 {
-    let names = notes.names;
-    let rules = notes.rules;
-    let triples = rules.triples;
-    let counts = rules.counts;
     Script {
-        number: 0,
-        place: 0,
-        n: names.n as u32,
-        alternatives: rules.many,
-        triples,
-        clauses: rules.clauses,
-        counts,
+        n: notes.names.n as u32,
+        rules: notes.rules,
     }
 }
 
 // The script that begins at `at`, piece by piece, to the first fault, or to where it does not go on, or to its end.
-pub fn script_from(text: &[u8], at: usize) -> Script
+pub fn script_from(text: &[u8], at: usize) -> Result<Script, Refused>
     ensures { result ≡ script_at text.now at }
 {
     let table = table();
     let mut notes = blank();
-    let mut i = at;
+    let mut from = at;
     let mut state = START;
-    loop {
-        let part = piece_at(text, i, state, &table);
-        if part.to == i {
-            if i < text.len() {
-                return refusal(20, i);
-            }
-            if may_end(&table, state) {
-                return script_of(notes);
-            }
-            return refusal(20, i);
-        }
-        let got = read_piece(text, part.role, i, part.to, notes);
-        if got.number != 0 {
-            return refusal(got.number, got.place);
-        }
-        let next = got.notes;
-        notes = next;
-        i = part.to;
+    while let Some(part) = piece_at(text, from, state, &table) {
+        let piece = Span { from, to: part.to };
+        notes = read_piece(text, part.role, piece, notes)?;
+        from = part.to;
         state = part.state;
     }
+    if from < text.len() || !may_end(&table, state) {
+        return Err(Refused {
+            refusal: Refusal::Script,
+            place: from,
+        });
+    }
+    Ok(script_of(notes))
 }

@@ -2,8 +2,8 @@
 ghost use Rattle.std.specs.Prelude.{◌≡◌};
 ghost use Rattle.script.specs.Script.{script_at, script_in};
 
-use super::Script;
 use super::plain::script_from;
+use super::{Refused, Script};
 
 // A script where it lies, and a place in it.
 #[derive(Clone, Copy)]
@@ -20,14 +20,14 @@ pub fn begun<'a>(script: &'a [u8]) -> Reader<'a>
 }
 
 // What is read from the reader's place on.
-pub fn read<'a>(r: Reader<'a>) -> Script
+pub fn read<'a>(r: Reader<'a>) -> Result<Script, Refused>
     ensures { result ≡ script_at r.entry.script.now r.entry.at }
 {
     script_from(r.script, r.at)
 }
 
 // Reads a script: the problem that it says, or the refusal with its place.
-pub fn read_script(text: &[u8]) -> Script
+pub fn read_script(text: &[u8]) -> Result<Script, Refused>
     ensures { result ≡ script_in text.now }
 {
     read(begun(text))

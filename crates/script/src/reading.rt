@@ -1,111 +1,79 @@
 // The pieces of a script read one by one: what each makes of what was read before it.
 ghost use Rattle.std.specs.Prelude.{◌≡◌, ◌≤◌};
-ghost use Rattle.std.proofs.Math.Seq.{slice};
 ghost use Rattle.meaning.specs.Limits.{most_bound};
 ghost use Rattle.dialogue.specs.Words.{unsigned_of};
-ghost use Rattle.script.specs.Reading.{signed, with_new, is_again, with_event, with_bound, with_name, with_clause, with_check};
-ghost use Rattle.script.specs.Notes.{noted, Ready, Took, Makes, Reads};
+ghost use Rattle.grammar.specs.Roles.{meant};
+ghost use Rattle.script.specs.Reading.{signed, with_new, is_again, with_event, with_bound, with_name, with_clause, with_check, read_piece};
+ghost use Rattle.script.specs.Notes.{word_at, noted, Ready, Took, Makes};
 
-use super::names::{Names, event_of, is_new, with_name};
+use super::Refused;
+use super::names::{Names, Span, event_of, is_new, with_name};
 use super::rules::{Rules, with_alternative, with_clause};
-use dialogue::{Number, unsigned_of};
+use dialogue::unsigned_of;
+use grammar::Role;
+use meaning::Refusal;
 use problem::{ALTERNATIVES, CLAUSES, EVENTS};
 
 // The largest bound.
 const BOUND: u32 = problem::BOUND as u32;
 
-// What was read so far: the names, from where to where the name of the open declaration stands, the events of the open atom, and the rules.
+// What was read so far: the names, where the name of the open declaration stands, the events of the open atom, and the rules.
 #[derive(Clone, Copy)]
 pub struct Notes {
     pub names: Names,
-    pub from: usize,
-    pub to: usize,
+    pub new: Span,
     pub x: u8,
     pub y: u8,
     pub rules: Rules,
 }
 
-// The refusal's number, or 0, and its place; and what was read.
-#[derive(Clone, Copy)]
-pub struct Got {
-    pub number: u8,
-    pub place: usize,
-    pub notes: Notes,
-}
-
 // The name of a declaration: 20 at its first byte where it may not be declared.
-fn new_name(text: &[u8], from: usize, to: usize, notes: Notes) -> Got
-    requires { Ready text.now from to notes }
-    ensures { Took text.now (with_new from (slice from to text.now)) notes to result }
+fn new_name(text: &[u8], name: Span, notes: Notes) -> Result<Notes, Refused>
+    requires { Ready text.now name notes }
+    ensures { Took text.now (with_new name.from (word_at text.now name)) notes name.to result }
 {
-    let names = notes.names;
-    if is_new(text, names, &text[from..to]) {
-        let mut next = notes;
-        next.from = from;
-        next.to = to;
-        return Got {
-            number: 0,
-            place: 0,
-            notes: next,
-        };
+    if is_new(text, notes.names, name.word(text)) {
+        return Ok(Notes { new: name, ..notes });
     }
-    Got {
-        number: 20,
-        place: from,
-        notes,
-    }
+    Err(Refused {
+        refusal: Refusal::Script,
+        place: name.from,
+    })
 }
 
 // The notes with the event of the open atom's first name, or of its second.
 fn with_event(notes: Notes, second: bool, event: u8) -> Notes
     ensures { result ≡ noted second event notes }
 {
-    let mut next = notes;
     if second {
-        next.y = event;
-        return next;
+        Notes { y: event, ..notes }
+    } else {
+        Notes { x: event, ..notes }
     }
-    next.x = event;
-    next
 }
 
 // Whether a name of an atom is its second, and the event is that of its first.
 fn is_again(second: bool, x: u8, event: u8) -> bool
     ensures { result ≡ is_again second x event }
 {
-    if second {
-        return event == x;
-    }
-    false
+    second && event == x
 }
 
 // A name of an atom, the first or the second: 20 at its first byte where it is not declared, 12 where it is the atom's first name again.
-fn atom_name(text: &[u8], from: usize, to: usize, second: bool, notes: Notes) -> Got
-    requires { Ready text.now from to notes }
-    ensures { Took text.now (with_event second from (slice from to text.now)) notes to result }
+fn atom_name(text: &[u8], name: Span, second: bool, notes: Notes) -> Result<Notes, Refused>
+    requires { Ready text.now name notes }
+    ensures { Took text.now (with_event second name.from (word_at text.now name)) notes name.to result }
 {
-    let names = notes.names;
-    let event = event_of(text, names, &text[from..to]);
-    if names.n <= event {
-        return Got {
-            number: 20,
-            place: from,
-            notes,
-        };
+    let Some(event) = event_of(text, notes.names, name.word(text)) else {
+        return Err(Refused {
+            refusal: Refusal::Script,
+            place: name.from,
+        });
+    };
+    if is_again(second, notes.x, event) {
+        return Err(Refusal::Itself.into());
     }
-    let known = event as u8;
-    if is_again(second, notes.x, known) {
-        return Got {
-            number: 12,
-            place: 0,
-            notes,
-        };
-    }
-    Got {
-        number: 0,
-        place: 0,
-        notes: with_event(notes, second, known),
-    }
+    Ok(with_event(notes, second, event))
 }
 
 // A bound's numeral as the bound.
@@ -114,124 +82,76 @@ fn bound_of(value: u32, negated: bool) -> i32
     ensures { result ≡ signed negated value }
 {
     if negated {
-        return lent::negated(value);
+        -(value as i32)
+    } else {
+        value as i32
     }
-    value as i32
 }
 
 // The bound of an atom, with which its alternative is whole: 6 where it is too large.
-fn bound(text: &[u8], from: usize, to: usize, negated: bool, notes: Notes) -> Got
-    requires { Ready text.now from to notes }
-    ensures { Took text.now (with_bound negated (unsigned_of most_bound (slice from to text.now))) notes to result }
+fn bound(text: &[u8], numeral: Span, negated: bool, notes: Notes) -> Result<Notes, Refused>
+    requires { Ready text.now numeral notes }
+    ensures { Took text.now (with_bound negated (unsigned_of most_bound (word_at text.now numeral))) notes numeral.to result }
 {
-    match unsigned_of(&text[from..to], BOUND) {
-        Number::Of(value) => {
-            let rules = notes.rules;
-            let more = with_alternative(rules, notes.x, notes.y, bound_of(value, negated));
-            let mut next = notes;
-            next.rules = more;
-            Got {
-                number: 0,
-                place: 0,
-                notes: next,
-            }
+    match unsigned_of(numeral.word(text), BOUND) {
+        Some(value) => {
+            let rules = with_alternative(notes.rules, notes.x, notes.y, bound_of(value, negated));
+            Ok(Notes { rules, ..notes })
         }
-        Number::Malformed => Got {
-            number: 6,
-            place: 0,
-            notes,
-        },
+        None => Err(Refusal::Bound.into()),
     }
 }
 
 // The end of a declaration: 1 where it is one too many.
-fn declaration_end(notes: Notes) -> Got
+fn declaration_end(notes: Notes) -> Result<Notes, Refused>
     ensures { Makes with_name notes result }
 {
-    let names = notes.names;
-    if EVENTS <= names.n {
-        return Got {
-            number: 1,
-            place: 0,
-            notes,
-        };
+    if EVENTS <= notes.names.n {
+        return Err(Refusal::Events.into());
     }
-    let more = with_name(names, notes.from, notes.to);
-    let mut next = notes;
-    next.names = more;
-    Got {
-        number: 0,
-        place: 0,
-        notes: next,
-    }
+    let names = with_name(notes.names, notes.new);
+    Ok(Notes { names, ..notes })
 }
 
 // The end of an assert: 2 where it is one too many, 3 where it holds one alternative too many.
-fn assert_end(notes: Notes) -> Got
+fn assert_end(notes: Notes) -> Result<Notes, Refused>
     ensures { Makes with_clause notes result }
 {
-    let rules = notes.rules;
-    if CLAUSES <= rules.clauses {
-        return Got {
-            number: 2,
-            place: 0,
-            notes,
-        };
+    if CLAUSES <= notes.rules.clauses {
+        return Err(Refusal::Clauses.into());
     }
-    if ALTERNATIVES < rules.many {
-        return Got {
-            number: 3,
-            place: 0,
-            notes,
-        };
+    if ALTERNATIVES < notes.rules.alternatives {
+        return Err(Refusal::Triples.into());
     }
-    let more = with_clause(rules);
-    let mut next = notes;
-    next.rules = more;
-    Got {
-        number: 0,
-        place: 0,
-        notes: next,
-    }
+    let rules = with_clause(notes.rules);
+    Ok(Notes { rules, ..notes })
 }
 
 // The end of check-sat: 1 where no event is declared.
-fn check_end(notes: Notes) -> Got
+fn check_end(notes: Notes) -> Result<Notes, Refused>
     ensures { Makes with_check notes result }
 {
-    let names = notes.names;
-    if names.n < 1 {
-        return Got {
-            number: 1,
-            place: 0,
-            notes,
-        };
+    if notes.names.n == 0 {
+        return Err(Refusal::Events.into());
     }
-    Got {
-        number: 0,
-        place: 0,
-        notes,
-    }
+    Ok(notes)
 }
 
-// The piece of the text from `from` up to `to`, of the role with this number.
-pub fn read_piece(text: &[u8], role: u8, from: usize, to: usize, notes: Notes) -> Got
-    requires { Ready text.now from to notes }
-    ensures { Reads text.now role from to notes result }
+// A piece of the text, of any role.
+#[tactic(auto, unfolding(crate::specs::Reading::read_piece))]
+pub fn read_piece(text: &[u8], role: Role, piece: Span, notes: Notes) -> Result<Notes, Refused>
+    requires { Ready text.now piece notes }
+    ensures { Took text.now (read_piece (meant role) piece.from (word_at text.now piece)) notes piece.to result }
 {
     match role {
-        1 => new_name(text, from, to, notes),
-        2 => atom_name(text, from, to, false, notes),
-        3 => atom_name(text, from, to, true, notes),
-        4 => bound(text, from, to, false, notes),
-        5 => bound(text, from, to, true, notes),
-        6 => declaration_end(notes),
-        7 => assert_end(notes),
-        8 => check_end(notes),
-        _ => Got {
-            number: 0,
-            place: 0,
-            notes,
-        },
+        Role::Other => Ok(notes),
+        Role::NewName => new_name(text, piece, notes),
+        Role::FirstName => atom_name(text, piece, false, notes),
+        Role::SecondName => atom_name(text, piece, true, notes),
+        Role::BoundDigit => bound(text, piece, false, notes),
+        Role::NegatedDigit => bound(text, piece, true, notes),
+        Role::DeclarationEnd => declaration_end(notes),
+        Role::AssertEnd => assert_end(notes),
+        Role::CheckEnd => check_end(notes),
     }
 }

@@ -11,7 +11,7 @@ pub const NUMBERS: usize = 3 * ALTERNATIVES;
 // How many alternatives were read, the triples of the first 64 of them, how many clauses, and their counts. Unused numbers are 0.
 #[derive(Clone, Copy)]
 pub struct Rules {
-    pub many: usize,
+    pub alternatives: usize,
     pub triples: [i32; NUMBERS],
     pub clauses: usize,
     pub counts: [u32; CLAUSES],
@@ -19,10 +19,10 @@ pub struct Rules {
 
 // No alternative and no clause.
 pub fn no_rules() -> Rules
-    ensures { RulesAre result [] [] × (result.many ≡ 0) × (result.clauses ≡ 0) }
+    ensures { RulesAre result [] [] × (result.alternatives ≡ 0) × (result.clauses ≡ 0) }
 {
     Rules {
-        many: 0,
+        alternatives: 0,
         triples: [0; NUMBERS],
         clauses: 0,
         counts: [0; CLAUSES],
@@ -31,46 +31,28 @@ pub fn no_rules() -> Rules
 
 // One alternative more. One past the 64th is only counted: its assert will be refused.
 pub fn with_alternative(rules: Rules, x: u8, y: u8, c: i32) -> Rules
-    requires { rules.many < 2 ^ 63 }
+    requires { rules.alternatives < 2 ^ 63 }
     ensures { Adds rules x y c result }
 {
-    let many = rules.many;
-    let clauses = rules.clauses;
-    let mut triples = rules.triples;
-    let counts = rules.counts;
-    if ALTERNATIVES <= many {
-        return Rules {
-            many: many + 1,
-            triples,
-            clauses,
-            counts,
-        };
+    let mut more = rules;
+    let at = rules.alternatives;
+    more.alternatives += 1;
+    if ALTERNATIVES <= at {
+        return more;
     }
-    triples[many * 3] = x as i32;
-    triples[many * 3 + 1] = y as i32;
-    triples[many * 3 + 2] = c;
-    Rules {
-        many: many + 1,
-        triples,
-        clauses,
-        counts,
-    }
+    more.triples[at * 3] = x as i32;
+    more.triples[at * 3 + 1] = y as i32;
+    more.triples[at * 3 + 2] = c;
+    more
 }
 
 // One clause more: the alternatives since the last.
 pub fn with_clause(rules: Rules) -> Rules
-    requires { (rules.clauses < most_clauses) × (rules.many ≤ most_alternatives) }
+    requires { (rules.clauses < most_clauses) × (rules.alternatives ≤ most_alternatives) }
     ensures { Ends rules result }
 {
-    let many = rules.many;
-    let clauses = rules.clauses;
-    let triples = rules.triples;
-    let mut counts = rules.counts;
-    counts[clauses] = many as u32;
-    Rules {
-        many,
-        triples,
-        clauses: clauses + 1,
-        counts,
-    }
+    let mut more = rules;
+    more.counts[rules.clauses] = rules.alternatives as u32;
+    more.clauses += 1;
+    more
 }

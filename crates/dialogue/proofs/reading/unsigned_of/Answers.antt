@@ -3,44 +3,42 @@ use mathlib.Core.Path.{◌≡◌, sym, ap, ◌∙◌}
 use mathlib.Core.List.{[]}
 use native.Mathlib.Omega.{arith}
 use lib.ListN.{drop_of_length-le}
+use borrow.Author.Tests.{eqb-true}
 use Rattle.dialogue.specs.Words.{unsigned_of, digits_from}
-use Rattle.dialogue.specs.Told.{as_number}
 use Rattle.dialogue.proofs.Spelling.{number-end, number-low, number-high, number_more, number-over, unsigned-none, unsigned-some}
 use Rattle.dialogue.proofs.reading.unsigned_of.Goals as goal
+use Rattle.dialogue.proofs.reading.unsigned_of.Goals.{then-b-lt48-via-then-b-lt48, then-b-lt48-via-else-b-lt48+then-b-gt57}
 
-pub returns-then-word-eq0 : goal.returns-then-word-eq0
-returns-then-word-eq0 c = sym (ap as_number (unsigned-none c.args.most c.args.word.now c.if-word-eq0.true))
+pub returns-then-is_empty : goal.returns-then-is_empty
+returns-then-is_empty c = sym (unsigned-none c.args.most c.args.word.now (eqb-true _ _ (sym c.if-is_empty.ensures)))
 
-pub loop-i-init : goal.loop-i-init
-loop-i-init c = (omega arith, (omega arith, unsigned-some c.args.most c.args.word.now (omega arith)))
+pub loop-b-init : goal.loop-b-init
+loop-b-init c = record { within = omega arith; remains = unsigned-some c.args.most c.args.word.now (grind (arith, c.if-is_empty.ensures)) }
 
 pub returns-then-b-lt48 : goal.returns-then-b-lt48
 returns-then-b-lt48 c =
-    let l = c.loop-i in
+    let l = c.loop-b in
     let a = c.args in
-    sym (ap as_number (l.invariant.1.1 ∙ number-low a.most l.value a.word.now l.i (omega arith) c.if-b-lt48.true))
-
-pub returns-then-b-gt57 : goal.returns-then-b-gt57
-returns-then-b-gt57 c =
-    let l = c.loop-i in
-    let a = c.args in
-    sym (ap as_number (l.invariant.1.1 ∙ number-high a.most l.value a.word.now l.i (omega arith) c.if-b-gt57.true))
+    sym (l.invariant.remains ∙ elim c.then-b-lt48.branch [
+      | then-b-lt48-via-then-b-lt48 w ↦ number-low a.most l.value a.word.now l.b-index (omega arith) w.if-b-lt48.true
+      | then-b-lt48-via-else-b-lt48+then-b-gt57 w ↦ number-high a.most l.value a.word.now l.b-index (omega arith) w.if-b-gt57.true
+    ])
 
 pub returns-then-most-value : goal.returns-then-most-value
 returns-then-most-value c =
-    let l = c.loop-i in
+    let l = c.loop-b in
     let a = c.args in
-    sym (ap as_number (l.invariant.1.1 ∙ number-over a.most l.value a.word.now l.i (omega arith) (omega arith) (omega arith) c.if-most-value.true))
+    sym (l.invariant.remains ∙ number-over a.most l.value a.word.now l.b-index (omega arith) (omega arith) (omega arith) c.if-most-value.true)
 
-pub loop-i-preserved : goal.loop-i-preserved
-loop-i-preserved c =
-    let l = c.loop-i in
+pub loop-b-preserved : goal.loop-b-preserved
+loop-b-preserved c =
+    let l = c.loop-b in
     let a = c.args in
-    (omega arith, (omega arith, l.invariant.1.1 ∙ number_more a.most l.value a.word.now l.i (omega arith) (omega arith) (omega arith)))
+    record { within = omega arith; remains = l.invariant.remains ∙ number_more a.most l.value a.word.now l.b-index (omega arith) (omega arith) (omega arith) }
 
 pub returns : goal.returns
 returns c =
-    let l = c.loop-i in
+    let l = c.loop-b in
     let a = c.args in
-    let e : unsigned_of a.most a.word.now ≡ digits_from a.most l.value [] = l.invariant.1.1 ∙ ap (digits_from a.most l.value) (drop_of_length-le a.word.now c.loop-i-test.false) in
-    sym (ap as_number (e ∙ number-end a.most l.value l.invariant.1.0))
+    let e : unsigned_of a.most a.word.now ≡ digits_from a.most l.value [] = l.invariant.remains ∙ ap (digits_from a.most l.value) (drop_of_length-le a.word.now c.loop-b-test.false) in
+    sym (e ∙ number-end a.most l.value l.invariant.within)

@@ -1,12 +1,9 @@
 -- `unsigned_of` meets its contract: the digits that remain, begun from the value so far, give the same answer. Assumes nothing.
-use Prim.Native.Nat.{◌≤◌, ◌-◌}
+use Prim.Native.Nat.{◌≤◌}
 use mathlib.Core.Path.{◌≡◌}
-use lib.ListN.{length, drop}
+use lib.ListN.{drop}
 use Rattle.dialogue.specs.Words.{unsigned_of, digits_from}
 use Rattle.dialogue.proofs.reading.unsigned_of.Given as goal
 
-abbrev pub invariant-loop-i : goal.invariant-loop-i
-invariant-loop-i l = (l.i ≤ length l.word) × ((l.value ≤ l.most) × (unsigned_of l.most l.word ≡ digits_from l.most l.value (drop l.i l.word)))
-
-abbrev pub decreases-loop-i : goal.decreases-loop-i
-decreases-loop-i l = length l.word - l.i
+abbrev pub invariant-loop-b : goal.invariant-loop-b
+invariant-loop-b l = record { within : l.value ≤ l.most; remains : unsigned_of l.most l.word ≡ digits_from l.most l.value (drop l.b-index l.word) }

@@ -1,30 +1,16 @@
--- `until` meets its contract: the place looked for stays the same while no `stop` has come. Assumes nothing.
-use mathlib.Core.Path.{sym, ◌∙◌}
+-- `until` meets its contract: the bytes before a stop are as many as its position says. Assumes nothing.
+use mathlib.Core.Path.{sym}
 use native.Mathlib.Omega.{arith}
-use borrow.Author.Rules.{rules}
-use Rattle.dialogue.proofs.Spelling.{place_here, place-on, place_end}
+use Rattle.dialogue.proofs.Spelling.{place_end}
+use Rattle.dialogue.proofs.Placing.{place-position}
 use Rattle.dialogue.proofs.reading.until.Goals as goal
 
-pub returns-then-text-i : goal.returns-then-text-i
-returns-then-text-i c =
-    let l = c.loop-i in
-    let a = c.args in
-    record {
-      value = sym (l.invariant.1.1 ∙ place_here a.stop a.text.now l.i (omega arith) c.if-text-i.true);
-      lower_bound = search rules;
-    }
+pub returns-in_default-clause-value : goal.returns-in_default-clause-value
+returns-in_default-clause-value c =
+    let h = c.in_default.ensures.lookup.0 in
+    sym (place_end c.args.stop c.args.text.now c.args.at (omega arith))
 
-pub loop-i-preserved : goal.loop-i-preserved
-loop-i-preserved c =
-    let l = c.loop-i in
+pub returns-clause-value : goal.returns-clause-value
+returns-clause-value c =
     let a = c.args in
-    (omega arith, (omega arith, l.invariant.1.1 ∙ place-on a.stop a.text.now l.i (omega arith) c.if-text-i.false))
-
-pub returns : goal.returns
-returns c =
-    let l = c.loop-i in
-    let a = c.args in
-    record {
-      value = sym (l.invariant.1.1 ∙ place_end a.stop a.text.now l.i (omega arith));
-      lower_bound = search rules;
-    }
+    place-position a.stop a.text.now c.in-Some.rest.now a.at _ _ c.in-Some.ensures.lookup.0.2 c.first_of.ensures c.unwrap_or.ensures

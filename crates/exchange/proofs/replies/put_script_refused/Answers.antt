@@ -1,4 +1,4 @@
--- `put_script_refused` meets its contract: by whether the refusal has a place. Assumes nothing.
+-- `put_script_refused` meets its contract: by whether the refusal has a place.
 use borrow.Author.Tests.{eq-eqb, ne_eqb}
 use Rattle.exchange.specs.Replies.{script_refused_text}
 use Rattle.exchange.proofs.replies.put_script_refused.Goals as goal

@@ -1,9 +1,6 @@
--- `put_three` meets its contract: one text after another. Assumes nothing.
-use Rattle.dialogue.proofs.Buffers.{after}
-use Rattle.exchange.specs.Replies.{next, with_two}
+-- `put_three` meets its contract: one text after another.
+use Rattle.dialogue.proofs.Puts.{puts_then}
 use Rattle.exchange.proofs.replies.put_three.Goals as goal
 
 pub returns : goal.returns
-returns c =
-    let a = c.args in
-    after a.reply.now 0 (with_two a.word.now a.visits a.before) (next a.rows) c.put_two-to.ensures c.put_next.ensures
+returns c = puts_then c.put_two.ensures c.put_next.ensures

@@ -1,13 +1,6 @@
--- `put_two` meets its contract: one text after another. Assumes nothing.
-use mathlib.Core.List.{◌++◌}
-use Rattle.dialogue.proofs.Buffers.{after}
-use Rattle.exchange.specs.Replies.{next}
+-- `put_two` meets its contract: one text after another.
+use Rattle.dialogue.proofs.Puts.{puts_then}
 use Rattle.exchange.proofs.replies.put_two.Goals as goal
 
 pub returns : goal.returns
-returns c =
-    let a = c.args in
-    let w = a.word.now in
-    after a.reply.now 0 (w ++ next a.visits) (next a.before)
-    (after a.reply.now 0 w (next a.visits) c.put-to.ensures c.put_next-to.ensures)
-    c.put_next.ensures
+returns c = puts_then (puts_then c.put.ensures c.put_next.ensures) c.put_next-2.ensures

@@ -1,38 +1,36 @@
--- `event_of` meets its contract: i and the event among the words from the i-th on stay the event among all. Assumes nothing.
-use mathlib.Core.Path.{◌≡◌}
+-- `event_of` meets its contract: none of the names so far is the word. Assumes nothing.
+use mathlib.Core.Path.{sym, ◌∙◌}
 use native.Mathlib.Omega.{arith}
-use borrow.Author.Rules.{rules}
-use lib.ListN.{length}
-use Rattle.meaning.specs.Limits.{most_events}
+use lib.ListN.{take}
+use lib.Pointwise.{bytes_decides}
+use Rattle.std.proofs.lemmas.List.{length-map}
+use Rattle.script.specs.Notes.{word_at}
+use Rattle.script.proofs.Declaring.{none-past, event-here, event-later, event-end}
 use Rattle.script.proofs.Wording.{apart_by}
-use Rattle.script.proofs.Declaring.{names-count, event-here, event-later, event-end}
 use Rattle.script.proofs.names.event_of.Goals as goal
 
-pub slice_bounds-same-count : goal.slice_bounds-same-count
-slice_bounds-same-count c = c.requires.order c.loop-i.i c.loop-i-test.true
+pub loop-event-init : goal.loop-event-init
+loop-event-init c = none-past _ _
 
-pub returns-then-same : goal.returns-then-same
-returns-then-same c =
-    let l = c.loop-i in
+pub returns-then-eq : goal.returns-then-eq
+returns-then-eq c =
     let a = c.args in
-    let s : length a.names.starts ≡ most_events = search rules in
-    let e : length a.names.ends ≡ most_events = search rules in
-    record {
-      event = omega (arith, l.invariant.1, event-here a.text.now a.names a.word.now l.i c.loop-i-test.true c.requires.few s e (c.same.ensures.0 c.if-same.true));
-      count = names-count a.text.now a.names c.requires.few s e;
-    }
+    let names = take a.names.n a.names.spans in
+    let l = c.loop-event in
+    let same = (bytes_decides c.word.result.now a.word.now).0 (sym c.if-eq.ensures) in
+    (event-here a.text.now names a.word.now l.event c.loop-event-test.true _ l.invariant (sym c.word.ensures ∙ same), omega (arith, length-map names (word_at a.text.now)))
 
-pub loop-i-preserved : goal.loop-i-preserved
-loop-i-preserved c =
-    let l = c.loop-i in
+pub loop-event-preserved : goal.loop-event-preserved
+loop-event-preserved c =
     let a = c.args in
-    (omega arith, omega (arith, l.invariant.1, event-later a.text.now a.names a.word.now l.i c.loop-i-test.true c.requires.few (search rules) (search rules) (apart_by c.if-same.false c.same.ensures.1)))
+    let names = take a.names.n a.names.spans in
+    let l = c.loop-event in
+    let same = (bytes_decides c.word.result.now a.word.now).1 in
+    event-later a.text.now names a.word.now l.event c.loop-event-test.true _ l.invariant (λ q. apart_by (sym c.if-eq.ensures) same (c.word.ensures ∙ q))
 
 pub returns : goal.returns
 returns c =
-    let l = c.loop-i in
     let a = c.args in
-    record {
-      event = omega (arith, l.invariant.1, event-end a.text.now a.names a.word.now l.i c.loop-i-test.false);
-      count = names-count a.text.now a.names c.requires.few (search rules) (search rules);
-    }
+    let names = take a.names.n a.names.spans in
+    let l = c.loop-event in
+    event-end a.text.now names a.word.now l.event l.invariant (omega arith)

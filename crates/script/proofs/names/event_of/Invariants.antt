@@ -1,11 +1,8 @@
--- `event_of` meets its contract: i and the event among the words from the i-th on stay the event among all. Assumes nothing.
-use mathlib.Core.Path.{◌≡◌}
-use Prim.Native.Nat.{◌+◌, ◌-◌, ◌≤◌}
-use Rattle.script.proofs.Declaring.{event_from}
+-- `event_of` meets its contract: none of the names so far is the word. Assumes nothing.
+use Rattle.std.proofs.Common.{map}
+use Rattle.script.specs.Notes.{word_at}
+use Rattle.script.proofs.Declaring.{Past}
 use Rattle.script.proofs.names.event_of.Given as goal
 
-abbrev pub invariant-loop-i : goal.invariant-loop-i
-invariant-loop-i l = (l.i ≤ l.n) × (event_from 0 l.text l.n l.starts l.ends l.word ≡ l.i + event_from l.i l.text l.n l.starts l.ends l.word)
-
-abbrev pub decreases-loop-i : goal.decreases-loop-i
-decreases-loop-i l = l.n - l.i
+abbrev pub invariant-loop-event : goal.invariant-loop-event
+invariant-loop-event l = Past (map (word_at l.text) l.name-items) l.word l.event

@@ -5,8 +5,8 @@ use Rattle.grammar.specs.Automaton.{IsTable}
 use Rattle.script.proofs.Going.{Going}
 use Rattle.script.proofs.plain.script_from.Given as goal
 
-abbrev pub invariant-loop-i : goal.invariant-loop-i
-invariant-loop-i l = IsTable l.table × Going l.text l.at l.i l.state l.notes
+abbrev pub invariant-loop-part : goal.invariant-loop-part
+invariant-loop-part l = IsTable l.table × Going l.text l.at l.from l.state l.notes
 
-abbrev pub decreases-loop-i : goal.decreases-loop-i
-decreases-loop-i l = length l.text - l.i
+abbrev pub decreases-loop-part : goal.decreases-loop-part
+decreases-loop-part l = length l.text - l.from

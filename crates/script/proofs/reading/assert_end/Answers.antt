@@ -5,51 +5,51 @@ use Prim.Native.Nat.{ℕ, ◌/◌, ◌≤◌, ◌<◌}
 use native.Mathlib.Omega.{arith}
 use lib.ListN.{length}
 use Rattle.meaning.specs.Limits.{most_clauses, most_alternatives}
+use Rattle.meaning.specs.declared.Refusal.TheVariants.{Clauses, Triples}
 use Rattle.script.specs.Reading.{with_clause}
 use Rattle.script.specs.Notes.{RulesAre}
 use Rattle.script.proofs.Taking.{clause-refused, clause-too-long, claused, clause-taken, kept_on, took-refused, took-going}
 use Rattle.script.proofs.reading.assert_end.Goals as goal
 
-pub returns-then-rules-ge-CLAUSES : goal.returns-then-rules-ge-CLAUSES
-returns-then-rules-ge-CLAUSES c =
+pub returns-then-notes-ge-CLAUSES : goal.returns-then-notes-ge-CLAUSES
+returns-then-notes-ge-CLAUSES c =
     let r = c.args.notes in
     let full : most_clauses ≤ r.rules.clauses = omega arith in
     record {
-      took = λ text from to ready.
-          took-refused text from to r ready with_clause 2 0 (omega arith) (λ R a. clause-refused R (rw a.rules-are.clauses-are full));
+      took = λ text piece ready.
+          took-refused text piece r ready with_clause Clauses 0 c.into.ensures (λ R a. clause-refused R (rw a.rules-are.clauses-are full));
     }
 
-pub returns-then-rules-gt-ALTERNATIVES : goal.returns-then-rules-gt-ALTERNATIVES
-returns-then-rules-gt-ALTERNATIVES c =
+pub returns-then-notes-gt-ALTERNATIVES : goal.returns-then-notes-gt-ALTERNATIVES
+returns-then-notes-gt-ALTERNATIVES c =
     let r = c.args.notes in
     let room : r.rules.clauses < most_clauses = omega arith in
-    let over : most_alternatives < r.rules.many = omega arith in
+    let over : most_alternatives < r.rules.alternatives = omega arith in
     record {
-      took = λ text from to ready.
-          took-refused text from to r ready with_clause 3 0 (omega arith) (λ R a. clause-too-long R (rw a.rules-are.clauses-are room) (rw a.rules-are.many-are (omega arith)));
+      took = λ text piece ready.
+          took-refused text piece r ready with_clause Triples 0 c.into-then-notes-gt-ALTERNATIVES.ensures (λ R a. clause-too-long R (rw a.rules-are.clauses-are room) (rw a.rules-are.many-are (omega arith)));
     }
 
 pub returns : goal.returns
 returns c =
     let r = c.args.notes in
     let room : r.rules.clauses < most_clauses = omega arith in
-    let most : r.rules.many ≤ most_alternatives = omega arith in
-    let more = c.with_clause-more.result in
-    let ends = c.with_clause-more.ensures in
+    let most : r.rules.alternatives ≤ most_alternatives = omega arith in
+    let more = c.with_clause-rules.result in
+    let ends = c.with_clause-rules.ensures in
     record {
-      took = λ text from to ready.
-          let k = kept_on text from to r ready in
-          took-going text from to r ready with_clause (record { names = r.names; from = r.from; to = r.to; x = r.x; y = r.y; rules = more }) claused
+      took = λ text piece ready.
+          let k = kept_on text piece r ready in
+          took-going text piece r ready with_clause (record { names = r.names; new = r.new; x = r.x; y = r.y; rules = more }) claused
           (record {
             names-within = k.names-within;
-            new-order = k.new-order;
-            new-inside = k.new-inside;
+            new-within = k.new-within;
             few-clauses = omega (arith, ends.one_more);
             few = omega (arith, ends.same-many, k.few);
           })
           (λ R a. clause-taken R (rw a.rules-are.clauses-are room) (rw a.rules-are.many-are (omega arith)))
           (λ R a.
-          let third : r.rules.many ≡ length R.triples / 3 = omega (arith, a.rules-are.many-are) in
+          let third : r.rules.alternatives ≡ length R.triples / 3 = omega (arith, a.rules-are.many-are) in
           record {
             names-are = a.names-are;
             new_is = a.new_is;

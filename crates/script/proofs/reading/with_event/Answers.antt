@@ -6,6 +6,6 @@ pub returns-then-second : goal.returns-then-second
 unfolding noted
 returns-then-second c = rw c.if-second.true
 
-pub returns : goal.returns
+pub returns-else-second : goal.returns-else-second
 unfolding noted
-returns c = rw c.if-second.false
+returns-else-second c = rw c.if-second.false

@@ -15,9 +15,9 @@ use Rattle.script.proofs.rules.with_alternative.Goals as goal
 counted : (l : List ℤ) (k : ℕ) (x y c : ℤ) → length l ≡ k * 3 → length (l ++ (x ∷ y ∷ c ∷ [])) ≡ (k + 1) * 3
 counted l k x y c e = simp length-append (omega arith)
 
-pub returns-then-many-ge-ALTERNATIVES : goal.returns-then-many-ge-ALTERNATIVES
-returns-then-many-ge-ALTERNATIVES c =
-    let full : most_alternatives ≤ c.args.rules.many = omega arith in
+pub returns-then-at-ge-ALTERNATIVES : goal.returns-then-at-ge-ALTERNATIVES
+returns-then-at-ge-ALTERNATIVES c =
+    let full : most_alternatives ≤ c.args.rules.alternatives = omega arith in
     record {
       one_more = refl;
       same-clauses = refl;
@@ -32,7 +32,7 @@ returns-then-many-ge-ALTERNATIVES c =
 
 pub returns : goal.returns
 returns c =
-    let room : c.args.rules.many < most_alternatives = omega arith in
+    let room : c.args.rules.alternatives < most_alternatives = omega arith in
     record {
       one_more = refl;
       same-clauses = refl;
@@ -40,7 +40,7 @@ returns c =
           record {
             triples-are =
                 rw (to_z_pos w32 {n = c.args.x} (omega arith), to_z_pos w32 {n = c.args.y} (omega arith), to_z-of_z c.ranges.c, r.triples-are)
-                (three-fitted triples c.args.rules.many (pos c.args.x) (pos c.args.y) c.args.c r.many-are room);
+                (three-fitted triples c.args.rules.alternatives (pos c.args.x) (pos c.args.y) c.args.c r.many-are room);
             many-are = counted triples _ _ _ _ r.many-are;
             counts-are = r.counts-are;
             clauses-are = r.clauses-are;

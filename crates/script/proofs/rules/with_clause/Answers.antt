@@ -19,7 +19,7 @@ returns c =
           record {
             triples-are = s.triples-are;
             many-are = s.many-are;
-            counts-are = ap (λ (l : List ℕ). set l r.clauses r.many) s.counts-are ∙ one-fitted 0 most_clauses counts r.many r.clauses (sym s.clauses-are) room;
+            counts-are = ap (λ (l : List ℕ). set l r.clauses r.alternatives) s.counts-are ∙ one-fitted 0 most_clauses counts r.alternatives r.clauses (sym s.clauses-are) room;
             clauses-are = simp length-append (omega (arith, s.clauses-are));
           };
     }

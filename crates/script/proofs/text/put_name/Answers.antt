@@ -1,12 +1,9 @@
--- `put_name` meets its contract: one text after another. Assumes nothing.
-use Rattle.dialogue.specs.Written.{decimal}
+-- `put_name` meets its contract: one text after another.
 use Rattle.grammar.specs.Grammar.{bytes}
-use Rattle.dialogue.proofs.Buffers.{after}
+use Rattle.dialogue.proofs.Puts.{puts_then}
 use Rattle.script.specs.Text.{name_of}
 use Rattle.script.proofs.text.put_name.Goals as goal
 
 pub returns : goal.returns
 unfolding name_of bytes
-returns c =
-    let a = c.args in
-    after a.out.now a.at (bytes "e") (decimal a.e) c.put-to.ensures c.put_number.ensures
+returns c = puts_then c.put.ensures c.put_number.ensures

@@ -1,68 +1,37 @@
--- `write_script` meets its contract: by whether the problem is accepted and its text fits the room. Assumes nothing.
-use mathlib.Core.List.{List}
-use lib.ListN.{length, take}
+-- `write_script` meets its contract: by whether the problem is accepted and its text fits the room.
+use Rattle.std.proofs.Common.{◌≡◌, sym, ap, ◌∙◌, List, ℕ, length, arith}
 use lib.Seq.{length-take-le}
-use Prim.Native.Nat.{ℕ, ◌+◌}
-use mathlib.Core.Path.{◌≡◌, sym, ap, ◌∙◌}
-use native.Mathlib.Omega.{arith}
-use Rattle.problem.specs.Reads.{given}
-use Rattle.meaning.specs.Screen.{Lent, problem_refusal}
 use Rattle.meaning.proofs.Accepted.{passes}
-use Rattle.dialogue.specs.Written.{written, written_to}
-use Rattle.script.specs.Text.{text_of, longest_text, zeros}
-use Rattle.script.proofs.Leaving.{length-zeros, Whole, put_whole, leaves-refused, leaves-too-long, leaves-text}
+use Rattle.problem.specs.Reads.{given}
+use Rattle.std.proofs.lemmas.Result.{err_from_is_err_and}
+use Rattle.script.specs.Text.{text_of, zeros}
+use Rattle.script.proofs.Leaving.{put_whole, leaves-refused, leaves-too-long, leaves-text}
 use Rattle.script.proofs.writing.write_script.Goals as goal
 
--- the problem is accepted where its refusal is 0
-accepted-there : (l : Lent) {number : ℕ} → number ≡ problem_refusal l → number ≡ 0 → problem_refusal l ≡ 0
-accepted-there l e h = sym e ∙ h
+-- the room that is cleared is all zeros
+cleared-there : (room : List ℕ) {held : List ℕ} → (((y : ℕ) → y ≡ 0 → y ≡ 0) → held ≡ zeros (length room)) → held ≡ zeros (length room)
+cleared-there room f = f (λ y e. e)
 
--- the text that is put is whole there
-whole-there : (l : Lent) {number to : ℕ} {buffer : List ℕ} → number ≡ problem_refusal l → number ≡ 0 → buffer ≡ written (zeros longest_text) 0 (text_of l) → to ≡ written_to (zeros longest_text) 0 (text_of l) → Whole l buffer to
-whole-there l {to} {buffer} e h after value = put_whole l buffer to (accepted-there l e h) (after, value)
+pub returns-in_err-refusal : goal.returns-in_err-refusal
+returns-in_err-refusal c =
+    let e = err_from_is_err_and c.from_residual.result c.from_residual.ensures.1 in
+    rw (e.1, e.2, cleared-there c.args.room.now c.fill.ensures.after) (leaves-refused _ (length c.args.room.now) _ c.in_err-refusal.ensures)
 
--- what is taken of the buffer is as long as the text
-taken-there : {l : Lent} {to : ℕ} {buffer : List ℕ} → Whole l buffer to → length (take to buffer) ≡ to
-taken-there {to} {buffer} w = length-take-le to buffer w.within
+pub put_text-requires : goal.put_text-requires
+put_text-requires c = (passes _ (sym c.in_ok-refusal.ensures)).steps
 
-pub returns-then-number-ne0 : goal.returns-then-number-ne0
-returns-then-number-ne0 c =
-    rw c.fill_bytes.ensures
-    (leaves-refused (given c.args.n c.args.triples.now c.args.counts.now) (length c.args.room.now) c.refusal-number.result c.refusal-number.ensures c.if-number-ne0.true)
+pub returns-then-room-whole : goal.returns-then-room-whole
+returns-then-room-whole c =
+    let l = given c.args.n c.args.triples.now c.args.counts.now in
+    let is : c.text-whole.result.now ≡ text_of l = c.text-whole.ensures ∙ put_whole l (sym c.in_ok-refusal.ensures) c.new-out.ensures.at_front.1 c.new-out.ensures.at_front.0 c.put_text.ensures in
+    rw (cleared-there c.args.room.now c.fill.ensures.after) (leaves-too-long l (length c.args.room.now) (sym c.in_ok-refusal.ensures) (omega (arith, ap length is, c.fill.ensures.len)))
 
-pub put_text-length-requires : goal.put_text-length-requires
-put_text-length-requires c = (passes _ (accepted-there _ c.refusal-number.ensures c.if-number-ne0.false)).steps
-
-pub returns-then-room-length : goal.returns-then-room-length
-returns-then-room-length c =
-    let p = c.put_text-length.ensures in
-    let w = whole-there _ c.refusal-number.ensures c.if-number-ne0.false p.after p.value in
-    let cleared = c.fill_bytes.ensures in
-    let size = length c.args.room.now in
-    rw cleared (leaves-too-long _ size (accepted-there _ c.refusal-number.ensures c.if-number-ne0.false) (omega (arith, w.to_is, ap length cleared, length-zeros size)))
-
-pub slice_bounds-text-end : goal.slice_bounds-text-end
-slice_bounds-text-end c =
-    let p = c.put_text-length.ensures in
-    (whole-there _ c.refusal-number.ensures c.if-number-ne0.false p.after p.value).within
-
-pub slice_bounds-put_bytes-end : goal.slice_bounds-put_bytes-end
-slice_bounds-put_bytes-end c =
-    let p = c.put_text-length.ensures in
-    sym (taken-there (whole-there _ c.refusal-number.ensures c.if-number-ne0.false p.after p.value))
-
-pub put_bytes-requires : goal.put_bytes-requires
-put_bytes-requires c =
-    let p = c.put_text-length.ensures in
-    omega (arith, taken-there (whole-there _ c.refusal-number.ensures c.if-number-ne0.false p.after p.value))
+pub copy_from_slice-requires : goal.copy_from_slice-requires
+copy_from_slice-requires c = length-take-le (length c.text-whole.result.now) c.fill.new.self (omega arith)
 
 pub returns : goal.returns
 returns c =
-    let p = c.put_text-length in
-    let w = whole-there _ c.refusal-number.ensures c.if-number-ne0.false p.ensures.after p.ensures.value in
-    let cleared = c.fill_bytes.ensures in
-    let size = length c.args.room.now in
-    let front = length (take p.result p.new.out) in
-    let first : 0 + front ≡ front = omega arith in
-    rw (c.put_bytes.ensures, first, cleared)
-    (leaves-text _ size p.new.out p.result (accepted-there _ c.refusal-number.ensures c.if-number-ne0.false) w (omega (arith, ap length cleared, length-zeros size)))
+    let l = given c.args.n c.args.triples.now c.args.counts.now in
+    let is : c.text-whole.result.now ≡ text_of l = c.text-whole.ensures ∙ put_whole l (sym c.in_ok-refusal.ensures) c.new-out.ensures.at_front.1 c.new-out.ensures.at_front.0 c.put_text.ensures in
+    rw (c.copy_from_slice.ensures.after, cleared-there c.args.room.now c.fill.ensures.after, is)
+    (leaves-text l (length c.args.room.now) (sym c.in_ok-refusal.ensures) (omega (arith, ap length is, c.fill.ensures.len)))

@@ -1,14 +1,27 @@
 -- Laws of what a writer leaves: no text, one text after another, and a list one text longer. Assumes nothing.
-use Rattle.std.proofs.Common.{◌≡◌, ◌∙◌, refl, sym, ap, ◌+◌, ◌<◌, ◌++◌, List, [], ◌∷◌, ℕ, map, take, length, get_or}
+use Rattle.std.proofs.Common.{◌≡◌, ◌∙◌, refl, sym, ap, ◌+◌, ◌<◌, ◌++◌, List, [], ◌∷◌, ℕ, map, take, length, get_or, set, ◌≤◌}
 use mathlib.Core.List.{map-append, append_assoc, append-nil}
 use Rattle.std.proofs.lemmas.List.{take_more}
 use Rattle.dialogue.specs.declared.writing.Writer.{Writer}
 use Rattle.dialogue.specs.Written.{led}
 use Rattle.dialogue.specs.Puts.{Puts}
-use Rattle.dialogue.proofs.Buffers.{written_none, to_none, written_then, to-then}
+use Rattle.dialogue.proofs.Buffers.{written_none, to_none, written-full, to-full, written-byte, to-byte, written_then, to-then}
 
 pub puts-none : (a : Writer) → Puts a a []
 puts-none a = record { after = sym (written_none a.out.now a.at); place = sym (to_none a.out.now a.at); lent = refl }
+
+-- where there is no room
+pub puts_full : (a : Writer) (t : List ℕ) → length a.out.now ≤ a.at → Puts a a t
+puts_full a t h = record { after = sym (written-full a.out.now a.at t h); place = sym (to-full a.out.now a.at t h); lent = refl }
+
+-- where there is room for a byte
+pub puts-byte : (a : Writer) {b : Writer} (x : ℕ) → a.at < length a.out.now → b.out.now ≡ set a.out.now a.at x → b.at ≡ a.at + 1 → b.out.ghost_name ≡ a.out.ghost_name → Puts a b (x ∷ [])
+puts-byte a x h e p g =
+    record {
+      after = e ∙ sym (written-byte a.out.now a.at x h);
+      place = p ∙ sym (to-byte a.out.now a.at x h);
+      lent = g;
+    }
 
 pub puts_then : {a b c : Writer} {t u : List ℕ} → Puts a b t → Puts b c u → Puts a c (t ++ u)
 puts_then {a} {b} {c} {t} {u} p q =

@@ -3,6 +3,7 @@ use Prim.Native.Nat.{ℕ, ◌+◌, ◌*◌, ◌-◌, ◌≤◌, ◌<◌}
 use mathlib.Core.Path.{◌≡◌, refl, sym, ap, ◌∙◌}
 use mathlib.Core.Bool.{Bool, true, false, ◌&&◌, cond}
 use mathlib.Core.List.{List, [], ◌∷◌}
+use mathlib.Core.Logic.{◌⊎◌, inl, inr}
 use Rattle.std.specs.Prelude.{Option, None, Some}
 use Rattle.std.specs.Cmp.Lexicographic.{pointwise}
 use native.Mathlib.Numerals.{add-one}
@@ -39,20 +40,17 @@ number-large most v w h = let g : v ≤ value_from v w = value-ge v w in rw (lt-
 
 -- the digits from a place on, by the byte that stands there
 module _ (most v : ℕ) (w : List ℕ) (i : ℕ) (h : i < length w) where
-  pub number-low : get_or w i 0 < 48 → digits_from most v (drop i w) ≡ None
+  pub number-apart : (get_or w i 0 < 48) ⊎ (57 < get_or w i 0) → digits_from most v (drop i w) ≡ None
   unfolding digits_from are_digits
-  number-low l = rw (drop-cons w i 0 h, lt-leb 48 (get_or w i 0) l)
+  number-apart (inl l) = rw (drop-cons w i 0 h, lt-leb 48 (get_or w i 0) l)
+  number-apart (inr l) = rw (drop-cons w i 0 h, le-leb 48 (get_or w i 0) (omega arith), lt-leb (get_or w i 0) 57 l)
 
-  pub number-high : 57 < get_or w i 0 → digits_from most v (drop i w) ≡ None
-  unfolding digits_from are_digits
-  number-high l = rw (drop-cons w i 0 h, le-leb 48 (get_or w i 0) (omega arith), lt-leb (get_or w i 0) 57 l)
-
-  pub number_more : 48 ≤ get_or w i 0 → get_or w i 0 ≤ 57 → digits_from most v (drop i w) ≡ digits_from most (v * 10 + (get_or w i 0 - 48)) (drop (i + 1) w)
+  pub number_more : (48 ≤ get_or w i 0) × (get_or w i 0 ≤ 57) → digits_from most v (drop i w) ≡ digits_from most (v * 10 + (get_or w i 0 - 48)) (drop (i + 1) w)
   unfolding digits_from are_digits value_from
-  number_more l m = rw (drop-cons w i 0 h, add-one i, le-leb 48 (get_or w i 0) l, le-leb (get_or w i 0) 57 m)
+  number_more d = rw (drop-cons w i 0 h, add-one i, le-leb 48 (get_or w i 0) d.0, le-leb (get_or w i 0) 57 d.1)
 
-  pub number-over : 48 ≤ get_or w i 0 → get_or w i 0 ≤ 57 → most < v * 10 + (get_or w i 0 - 48) → digits_from most v (drop i w) ≡ None
-  number-over l m g = number_more l m ∙ number-large most (v * 10 + (get_or w i 0 - 48)) (drop (i + 1) w) g
+  pub number-over : (48 ≤ get_or w i 0) × (get_or w i 0 ≤ 57) → most < v * 10 + (get_or w i 0 - 48) → digits_from most v (drop i w) ≡ None
+  number-over d g = number_more d ∙ number-large most (v * 10 + (get_or w i 0 - 48)) (drop (i + 1) w) g
 
 pub unsigned-none : (most : ℕ) (w : List ℕ) → length w ≡ 0 → unsigned_of most w ≡ None
 unfolding unsigned_of

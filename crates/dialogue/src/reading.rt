@@ -73,7 +73,7 @@ pub fn unsigned_of(word: &[u8], most: u32) -> Option<u32>
     }
     let mut value: u64 = 0;
     for &b in word {
-        if b < b'0' || b'9' < b {
+        if !b.is_ascii_digit() {
             return None;
         }
         value = value * 10 + (b - b'0') as u64;

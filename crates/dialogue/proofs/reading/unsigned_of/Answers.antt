@@ -5,9 +5,8 @@ use native.Mathlib.Omega.{arith}
 use lib.ListN.{drop_of_length-le}
 use borrow.Author.Tests.{eqb-true}
 use Rattle.dialogue.specs.Words.{unsigned_of, digits_from}
-use Rattle.dialogue.proofs.Spelling.{number-end, number-low, number-high, number_more, number-over, unsigned-none, unsigned-some}
+use Rattle.dialogue.proofs.Spelling.{number-apart, number-end, number_more, number-over, unsigned-none, unsigned-some}
 use Rattle.dialogue.proofs.reading.unsigned_of.Goals as goal
-use Rattle.dialogue.proofs.reading.unsigned_of.Goals.{then-b-lt48-via-then-b-lt48, then-b-lt48-via-else-b-lt48+then-b-gt57}
 
 pub returns-then-is_empty : goal.returns-then-is_empty
 returns-then-is_empty c = sym (unsigned-none c.args.most c.args.word.now (eqb-true _ _ (sym c.if-is_empty.ensures)))
@@ -15,26 +14,26 @@ returns-then-is_empty c = sym (unsigned-none c.args.most c.args.word.now (eqb-tr
 pub loop-b-init : goal.loop-b-init
 loop-b-init c = record { within = omega arith; remains = unsigned-some c.args.most c.args.word.now (grind (arith, c.if-is_empty.ensures)) }
 
-pub returns-then-b-lt48 : goal.returns-then-b-lt48
-returns-then-b-lt48 c =
+pub returns-then-not-is_ascii_digit : goal.returns-then-not-is_ascii_digit
+returns-then-not-is_ascii_digit c =
     let l = c.loop-b in
     let a = c.args in
-    sym (l.invariant.remains ∙ elim c.then-b-lt48.branch [
-      | then-b-lt48-via-then-b-lt48 w ↦ number-low a.most l.value a.word.now l.b-index (omega arith) w.if-b-lt48.true
-      | then-b-lt48-via-else-b-lt48+then-b-gt57 w ↦ number-high a.most l.value a.word.now l.b-index (omega arith) w.if-b-gt57.true
-    ])
+    sym (l.invariant.remains ∙ number-apart a.most l.value a.word.now l.b-index (omega arith) c.if-not-is_ascii_digit.ensures.cases)
 
 pub returns-then-most-value : goal.returns-then-most-value
 returns-then-most-value c =
     let l = c.loop-b in
     let a = c.args in
-    sym (l.invariant.remains ∙ number-over a.most l.value a.word.now l.b-index (omega arith) (omega arith) (omega arith) c.if-most-value.true)
+    sym (l.invariant.remains ∙ number-over a.most l.value a.word.now l.b-index (omega arith) c.if-not-is_ascii_digit.ensures.cases c.if-most-value.true)
 
 pub loop-b-preserved : goal.loop-b-preserved
 loop-b-preserved c =
     let l = c.loop-b in
     let a = c.args in
-    record { within = omega arith; remains = l.invariant.remains ∙ number_more a.most l.value a.word.now l.b-index (omega arith) (omega arith) (omega arith) }
+    record {
+      within = omega arith;
+      remains = l.invariant.remains ∙ number_more a.most l.value a.word.now l.b-index (omega arith) c.if-not-is_ascii_digit.ensures.cases;
+    }
 
 pub returns : goal.returns
 returns c =

@@ -23,7 +23,7 @@ use Rattle.script.specs.Text.{text_of, longest_text, Writes}
 use Rattle.script.proofs.Fronts.{script-problem}
 use Rattle.script.proofs.Rewriting.{wrote, room-enough}
 use Rattle.exchange.specs.Replies.{next, refused_text, refused_at_text, script_refused_text}
-use Rattle.rewrite.specs.Says.{of_script, rewriting}
+use Rattle.rewrite.specs.Says.{line_of, of_script, rewriting}
 
 -- what was put at the front of the room for what is printed is all of it
 abbrev Printed : List ℕ → List ℕ → List ℕ → ℕ → Type 0
@@ -34,9 +34,6 @@ put-printed : {held : List ℕ} {to : ℕ} (text out t : List ℕ) → length t 
 put-printed text out t fits e p = let f = put_front out t fits p in (omega (arith, f.0), f.1 ∙ sym e)
 
 -- the line of a refusal is no longer than the longest text
-abbrev line_of : ℕ → ℕ → List ℕ
-line_of number place = script_refused_text number place ++ bytes "\n"
-
 line-length : (number place : ℕ) → number < 2 ^ 64 → place < 2 ^ 64 → length (line_of number place) ≤ longest_text
 unfolding script_refused_text bytes
 line-length number place n p = omega (arith, length-append (script_refused_text number place) (bytes "\n"), go (eqb number 20))

@@ -8,10 +8,14 @@ use Rattle.script.specs.Script.{script_in, lent_in, most_bytes}
 use Rattle.script.specs.Text.{text_of}
 use Rattle.exchange.specs.Replies.{script_refused_text}
 
+-- the line of a refusal
+abbrev pub line_of : ℕ → ℕ → List ℕ
+line_of number place = script_refused_text number place ++ bytes "\n"
+
 -- the problem that was read, written anew, or the refusal in a line
 unfoldable pub of_script : Result Script Refused → List ℕ
 of_script (Ok s) = text_of (lent_in s)
-of_script (Err e) = script_refused_text (number_of e.refusal) e.place ++ bytes "\n"
+of_script (Err e) = line_of (number_of e.refusal) e.place
 
 unfoldable pub rewriting : List ℕ → List ℕ
 rewriting text = let r = of_script (script_in text) in cond (ltb most_bytes (length text)) (bytes "too long\n") r

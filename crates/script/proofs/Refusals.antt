@@ -1,4 +1,4 @@
--- A refusal is told by its number, which is above 0. Assumes nothing.
+-- A refusal is told by its number, which is above 0 and fits a byte. Assumes nothing.
 use mathlib.Core.Path.{◌≡◌, refl, sym, ap, ◌∙◌}
 use mathlib.Core.List.{List, [], ◌∷◌}
 use Prim.Native.Nat.{ℕ, ◌<◌}
@@ -22,6 +22,22 @@ number-above NoTimetable = omega arith
 number-above NoDay = omega arith
 number-above Script = omega arith
 number-above Room = omega arith
+
+-- and fits a byte
+pub number-below : (e : Refusal) → number_of e < 256
+number-below Events = omega arith
+number-below Clauses = omega arith
+number-below Triples = omega arith
+number-below Counts = omega arith
+number-below Event = omega arith
+number-below Bound = omega arith
+number-below Allowance = omega arith
+number-below Lent = omega arith
+number-below Itself = omega arith
+number-below NoTimetable = omega arith
+number-below NoDay = omega arith
+number-below Script = omega arith
+number-below Room = omega arith
 
 -- the refusals, each at the place of its number
 numbered : List Refusal

@@ -2,8 +2,8 @@
 -- "The fault complete first in the text is the answer (a name's at its last byte)": a piece's fault is complete at the piece's last byte,
 -- and all pieces lie before the byte at which no continuation is allowed. So: the first piece with a fault, or else the grammar's answer.
 use Rattle.std.specs.Prelude.{Bool, true, false, not, cond, ◌&&◌, List, [], ◌∷◌, ◌++◌, ℕ, ◌*◌, ◌/◌, leb, eqb, ℤ, pos, neg_ℤ, length, drop}
-use Rattle.std.proofs.Math.Option.{Option, none, some}
 use Rattle.std.specs.Prelude.{Option as Spelt, None, Some}
+use Rattle.std.proofs.Math.Option.{Option, none, some}
 use Rattle.meaning.specs.Limits.{most_events, most_clauses, most_alternatives, most_bound}
 use Rattle.meaning.specs.declared.Refusal.{Refusal}
 use Rattle.meaning.specs.declared.Refusal.TheVariants.{Events, Clauses, Triples, Bound, Itself, Script}

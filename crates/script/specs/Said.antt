@@ -1,6 +1,5 @@
 -- What the asserts of a text say: a clause for each, in their order, over the names of the whole script. Faults are left to `Reading`. Definitions only.
-use Rattle.std.specs.Prelude.{Bool, true, false, List, [], ◌∷◌, ◌++◌, ℕ, suc}
-use Rattle.std.specs.Prelude.{Option as Spelt, None, Some}
+use Rattle.std.specs.Prelude.{Bool, true, false, List, [], ◌∷◌, ◌++◌, ℕ, suc, Option, None, Some}
 use Rattle.meaning.specs.Limits.{most_bound}
 use Rattle.meaning.specs.Problem.{Clause}
 use Rattle.dialogue.specs.Words.{unsigned_of}
@@ -22,7 +21,7 @@ abbrev pub nothing_said : Said
 nothing_said = record { x = 0; y = 0; many = 0; clause = []; clauses = [] }
 
 -- with its bound an atom is an alternative of the open assert, numbered by how many there are before it
-unfoldable pub say_bound : Bool → Spelt ℕ → Said → Said
+unfoldable pub say_bound : Bool → Option ℕ → Said → Said
 say_bound negated None s = s
 say_bound negated (Some v) s =
     record { x = s.x; y = s.y; many = suc s.many; clause = s.clause ++ (record { no = s.many; x = s.x; y = s.y; c = signed negated v } ∷ []); clauses = s.clauses }

@@ -1,8 +1,10 @@
 // Scripts of the subset of SMT-LIB 2 of request A1: read where they lie, into a problem as `plan` takes it, and written into lent room.
 #![tactic(auto)]
 
-ghost use Rattle.std.specs.Prelude.{◌≡◌};
+ghost use Rattle.std.specs.Prelude.{◌≡◌, ◌≤◌};
+ghost use Rattle.meaning.specs.Limits.{most_alternatives, most_clauses};
 ghost use Rattle.script.specs.Reading.{placeless};
+ghost use Rattle.script.specs.Script.{lent_in};
 
 mod names;
 mod plain;
@@ -25,6 +27,24 @@ pub const BYTES: usize = 65536;
 pub struct Script {
     pub n: u32,
     pub rules: Rules,
+}
+
+impl Script {
+    // The triples of its alternatives.
+    pub fn triples(&self) -> &[i32]
+        requires { self.now.rules.alternatives ≤ most_alternatives }
+        ensures { result.now ≡ (lent_in self.now).triples }
+    {
+        &self.rules.triples[..3 * self.rules.alternatives]
+    }
+
+    // The counts of its clauses.
+    pub fn counts(&self) -> &[u32]
+        requires { self.now.rules.clauses ≤ most_clauses }
+        ensures { result.now ≡ (lent_in self.now).counts }
+    {
+        &self.rules.counts[..self.rules.clauses]
+    }
 }
 
 // Why a script is refused, and the place of the byte where it is; only a text that does not go on has a place, and the others 0.

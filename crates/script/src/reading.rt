@@ -93,13 +93,11 @@ fn bound(text: &[u8], numeral: Span, negated: bool, notes: Notes) -> Result<Note
     requires { Ready text.now numeral notes }
     ensures { Took text.now (with_bound negated (unsigned_of most_bound (word_at text.now numeral))) notes numeral.to result }
 {
-    match unsigned_of(numeral.word(text), BOUND) {
-        Some(value) => {
-            let rules = with_alternative(notes.rules, notes.x, notes.y, bound_of(value, negated));
-            Ok(Notes { rules, ..notes })
-        }
-        None => Err(Refusal::Bound.into()),
-    }
+    let Some(value) = unsigned_of(numeral.word(text), BOUND) else {
+        return Err(Refusal::Bound.into());
+    };
+    let rules = with_alternative(notes.rules, notes.x, notes.y, bound_of(value, negated));
+    Ok(Notes { rules, ..notes })
 }
 
 // The end of a declaration: 1 where it is one too many.

@@ -3,10 +3,10 @@
 #![tactic(auto)]
 
 ghost use Rattle.std.specs.Prelude.{◌≡◌};
-ghost use Rattle.dialogue.specs.Written.{written, written_to};
+ghost use Rattle.dialogue.specs.Puts.{Puts};
 ghost use Rattle.solve.specs.Says.{of_answer, says, said};
 
-use dialogue::put;
+use dialogue::Writer;
 use exchange::put_script_refused;
 use meaning::Answer;
 use problem::{CLAUSES, EVENTS};
@@ -80,27 +80,25 @@ fn solution(text: &[u8]) -> Saying
     }
 }
 
-// Writes what is said into the line, and answers the place after it.
-fn put_saying(line: &mut [u8], saying: Saying) -> usize
-    ensures after { line.new ≡ written line.old 0 (said saying) }
-    ensures value { result ≡ written_to line.old 0 (said saying) }
+// Writes what is said.
+fn put_saying(line: &mut Writer, saying: Saying)
+    ensures { Puts line.old line.new (said saying) }
 {
     match saying {
-        Saying::Sat => put(line, 0, b"sat"),
-        Saying::Unsat => put(line, 0, b"unsat"),
-        Saying::Unknown => put(line, 0, b"unknown"),
+        Saying::Sat => line.put(b"sat"),
+        Saying::Unsat => line.put(b"unsat"),
+        Saying::Unknown => line.put(b"unknown"),
         Saying::Refused { number, place } => put_script_refused(line, number, place),
-        Saying::TooLong => put(line, 0, b"too long"),
+        Saying::TooLong => line.put(b"too long"),
     }
 }
 
 fn main() {
     let mut text = [0u8; BYTES + 1];
     let got = io::read_full(0, &mut text);
-    let mut line = [0u8; 64];
-    let to = put_saying(&mut line, solution(&text[..got]));
-    let end = put(&mut line, to, b"\n");
-    if end <= line.len() {
-        io::write_all(1, &line[..end]);
-    }
+    let mut room = [0u8; 64];
+    let mut line = Writer::new(&mut room);
+    put_saying(&mut line, solution(&text[..got]));
+    line.put(b"\n");
+    io::write_all(1, line.text());
 }

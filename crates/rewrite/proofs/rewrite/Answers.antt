@@ -3,20 +3,17 @@ use mathlib.Core.Path.{sym}
 use native.Mathlib.Omega.{arith}
 use borrow.Author.Rules.{rules}
 use Rattle.grammar.specs.Grammar.{bytes}
-use Rattle.dialogue.proofs.Buffers.{after}
-use Rattle.meaning.specs.Refusal.{number_of}
 use Rattle.script.specs.Script.{lent_in}
 use Rattle.script.specs.Text.{Writes}
 use Rattle.script.proofs.Refusals.{number-below}
 use Rattle.script.proofs.Fronts.{script-within}
-use Rattle.exchange.specs.Replies.{script_refused_text}
 use Rattle.rewrite.proofs.Printing.{prints-too-long, prints-refused, prints-text}
 use Rattle.rewrite.proofs.rewrite.Goals as goal
 
 pub returns-then-text-gt-BYTES : goal.returns-then-text-gt-BYTES
 unfolding bytes
 returns-then-text-gt-BYTES c =
-    let h = prints-too-long c.args.text.now c.args.out.now c.requires _ _ (omega arith) (c.put.ensures.after, c.put.ensures.value) in
+    let h = prints-too-long c.args.text.now c.args.out.now c.requires _ _ (omega arith) c.put_too_long.ensures in
     record { upper_bound = h.0; after = h.1 }
 
 pub triples-requires : goal.triples-requires
@@ -32,10 +29,8 @@ returns-in-Ok c =
     record { upper_bound = rw c.unwrap_or.ensures h.0; after = rw c.unwrap_or.ensures h.1 }
 
 pub returns-in-Err : goal.returns-in-Err
-unfolding bytes
 returns-in-Err c =
     let d = c.in-Err.refused in
-    let line = rw c.into.ensures at c.put_script_refused-to.ensures in
-    let e = after c.args.out.now 0 (script_refused_text (number_of d.refusal) d.place) (bytes "\n") line c.put-in-Err.ensures in
-    let h = prints-refused c.args.text.now c.args.out.now c.requires _ (omega arith) d _ c.in-Err.ensures (omega (arith, number-below d.refusal)) (search rules) (e.after, e.value) in
+    let line = rw c.into.ensures at c.put_refusal.ensures in
+    let h = prints-refused c.args.text.now c.args.out.now c.requires _ (omega arith) d _ c.in-Err.ensures (omega (arith, number-below d.refusal)) (search rules) line in
     record { upper_bound = h.0; after = h.1 }

@@ -26,8 +26,8 @@ pub bound_of-requires : goal.bound_of-requires
 bound_of-requires c =
     most-read most_bound c.word.result.now c.in-Some.ensures
 
-pub returns-in-Some : goal.returns-in-Some
-returns-in-Some c =
+pub returns : goal.returns
+returns c =
     let r = c.args.notes in
     let ready = c.requires in
     let text = c.args.text.now in
@@ -55,9 +55,9 @@ returns-in-Some c =
       rules-are = said more R.triples R.counts a.x-is a.y-is b (adds.stands R.triples R.counts a.rules-are);
     })
 
-pub returns-in-None : goal.returns-in-None
-returns-in-None c =
+pub returns-in_default : goal.returns-in_default
+returns-in_default c =
     let text = c.args.text.now in
     let w = word_at text c.args.numeral in
-    let e : unsigned_of most_bound w ≡ None = rw c.word.ensures at (sym c.in-None.ensures) in
+    let e : unsigned_of most_bound w ≡ None = rw (c.in_default.is, c.word.ensures) at (sym c.unsigned_of.ensures) in
     took-refused text c.args.numeral c.args.notes c.requires (with_bound c.args.negated (unsigned_of most_bound w)) Bound 0 c.into.ensures (λ R a. bound-refused R c.args.negated (unsigned_of most_bound w) e)

@@ -32,7 +32,7 @@ use Rattle.search.specs.declared.End.TheVariants.{Plan, Stop}
 use Rattle.search.specs.Standing.{standing_facts, Inside, DeadFrom}
 use Rattle.search.specs.Places.{open_at}
 use Rattle.search.specs.Listing.{put_row, Keeps}
-use Rattle.search.specs.Steps.{positions, effort, Fine, At, Goes, Steps, Visits, Leaves, Runs}
+use Rattle.search.specs.Steps.{positions, Fine, At, Steps, Visits, Leaves}
 use Rattle.search.proofs.Numbers.{standing-facts, standing-known}
 use Rattle.search.proofs.Keeping.{put-length, keeps-row, keeps_then}
 use Rattle.search.proofs.Steps.{stands, counted-on, closes, unsound-is, stops-is, found-is, dead-is, opens}
@@ -122,12 +122,3 @@ module _ (p : Problem) (a : ℕ) (picks : List ℕ) where
         counted = refl;
         kept = record { size = refl; lists = λ l. unfold rows_in listing in (e ∙ ap (λ (n : ℕ). replicate n blank_byte) (let z : length reasons ≡ length reasons - 0 = omega arith in z)) };
       }
-
--- ---- the loop of the run
--- from the place s, whose reasons are `before`, a step was made: it goes on, or the run ends
-module _ (p : Problem) (a : ℕ) (s : Place) (first before after : List ℕ) (here : At p a (search sound (clauses_in p) 0 [] a) s before) (size : length before ≡ length first) where
-  pub run-goes : (t : Place) → Steps p a s before (Continue t) after → Goes p a (search sound (clauses_in p) 0 [] a) (effort p a s) t after
-  run-goes t step = step.means _ here
-
-  pub run_ends : (e : End) → Steps p a s before (Break e) after → Runs p a first e after
-  run_ends e step = record { sized = step.sized ∙ size; ends = step.means _ here }

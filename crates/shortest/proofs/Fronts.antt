@@ -16,7 +16,7 @@ use Rattle.shortest.specs.Leading.{Picks, RowFrom}
 use Rattle.shortest.proofs.Bytes.{padded-none, padded-more}
 use Rattle.shortest.proofs.Reaching.{height-bounded}
 use Rattle.shortest.proofs.Targets.{closes-fewest}
-use Rattle.shortest.proofs.Greedy.{Led, led-start, led-end, led-more, some-picked, picked, need-more}
+use Rattle.shortest.proofs.Greedy.{Led, led-start, led-end, led-more, some-picked, picked}
 
 -- the front after i turns, and its row
 pub record Front (g : Net) (L : List ℕ) (t size : ℕ) (out : List ℕ) (u need i : ℕ) : Type 0 where
@@ -64,9 +64,6 @@ module _ (g : Net) (L : List ℕ) (tab : List (List ℕ)) (t size : ℕ) (w : Wi
         front-arc =
             let d = (picked g L w' t b size most fewest f.list u need f.led left after j (p' (Some j) p)).fact in
             subst (Arc g most_events) d.same (w.known.each d.place d.below)
-
-        pub front-need : bias ≤ need + bound g j
-        front-need = need-more g L w' t b size most fewest f.list u need f.led left after j (p' (Some j) p)
 
         -- as the code has it: the number as an index, and the event that it leads to
         pub front-more : (k x : ℕ) → k ≡ j → x ≡ head g k → Front g L t size (set out i j) x (need + bound g k - bias) (i + 1)

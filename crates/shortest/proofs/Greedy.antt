@@ -8,7 +8,7 @@ use native.Mathlib.Omega.{arith}
 use native.Mathlib.Decide.{ℕ_discrete}
 use lib.ListN.{length, length-append}
 use Rattle.std.proofs.Common.{Option, Some, None, IsSome}
-use Rattle.meaning.specs.Limits.{most_events, most_alternatives}
+use Rattle.meaning.specs.Limits.{most_events}
 use Rattle.meaning.specs.Plain.{◌≺◌}
 use Rattle.meaning.proofs.Dictionary.{before-none, before-one-more}
 use Rattle.problem.specs.Arcs.{Net, head, tail, bound, bias}
@@ -30,9 +30,6 @@ pub record Led (g : Net) (L : List ℕ) (t size : ℕ) (p : List ℕ) (u need : 
 -- a front with one fact more
 path-more : (g : Net) (L p : List ℕ) (j u v : ℕ) → Path g L u p v → IsFact L j → tail g j ≡ v → Path g L u (p ++ (j ∷ [])) (head g j)
 path-more g L p j u v h f e = path_join g L p (j ∷ []) u v (head g j) h (f, e, refl)
-
-fact_small : (g : Net) (L : List ℕ) (n j : ℕ) → Within g L n → IsFact L j → j < 2 * most_alternatives
-fact_small g L n j w f = omega (arith, f.same, (w.known.each f.place f.below).in-xs, w.few)
 
 module _ (g : Net) (L : List ℕ) (w : Within (turned g) L most_events) (t : ℕ) (b : t < most_events) (size : ℕ) (most : size ≤ most_events) (fewest : (m : List ℕ) → From g L t m → size ≤ length m) where
   pub led-start : highest < height g L t size t → Led g L t size [] t highest

@@ -2,7 +2,6 @@ pub mod Bytes
 pub mod Reaching
 pub mod Targets
 pub mod Greedy
-pub mod Picking
 pub mod Fronts
 pub mod Choosing
 pub mod Naming

@@ -1,8 +1,8 @@
 -- `put_rounds` makes the rounds: after k turns the table's rows up to k are those of k rounds, each of these changed a time, and the rows after k are as they were. Assumes nothing.
-use Rattle.std.proofs.Common.{◌≡◌, List, ℕ, [], arith, refl, length-set}
+use Rattle.std.proofs.Common.{List, ℕ, [], arith, refl, length-set}
 use Rattle.meaning.specs.Limits.{most_events}
 use Rattle.facts.specs.Tests.{farthest}
-use Rattle.facts.proofs.Tables.{rounds-first, next-round, rounds-more, rounds-small, stays-stored, stays-since, moving-more, ended-all, ended-still, some-changed, none-changed}
+use Rattle.facts.proofs.Tables.{rounds-first, next-round, rounds-more, rounds-small, stays-stored, stays-since, moving-more, ended-still, some-changed, none-changed}
 use Rattle.facts.proofs.Deciding.{within_more}
 use lib.Seq.{get_or-set_same}
 use Rattle.facts.proofs.rounds.put_rounds.Goals as goal
@@ -36,10 +36,3 @@ loop-k-preserved c =
       moving = moving-more _ _ _ _ l.invariant.moving (some-changed _ _ _ c.args.n l.k _ _ (l.invariant.made.row l.k (omega arith)) (next-round _ _ _ l.t l.k l.invariant.made r.result r.ensures) c.rising.result c.rising.ensures c.if-is_none.ensures);
       stays = stays-stored _ l.t r.result l.k _ (omega arith) l.invariant.stays;
     }
-
-pub returns : goal.returns
-returns c =
-    let l = c.loop-k in
-    let k : l.k ≡ c.args.n = omega arith in
-    let e = get_or-set_same c.args.t.now 0 c.args.start [] (omega arith) in
-    rw (← k) (rw e at (ended-all _ _ _ l.t l.k l.k (omega arith) refl l.invariant.made l.invariant.moving), stays-since c.args.t.now l.t c.args.start 0 l.k (omega arith) l.invariant.stays)

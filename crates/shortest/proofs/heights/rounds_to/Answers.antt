@@ -45,6 +45,3 @@ loop-r-preserved c =
       made = rounds-more _ _ _ l.tab l.r l.invariant.made (omega (arith, length-set {A = List ℕ})) r.result r.ensures;
       low = below_more _ _ l.invariant.low (omega (arith, round-height _ _ c.args.t l.tab l.r l.invariant.made r.result r.ensures c.args.t));
     }
-
-pub returns : goal.returns
-returns c = let l = c.loop-r in record { some = tt; none = λ _ k h. l.invariant.low k (omega arith) }

@@ -14,7 +14,7 @@ use held::Facts;
 use meaning::{Panel, Refusal};
 use problem::{CLAUSES, Problem};
 
-// What stands for the first lit lamp where none is lit.
+// What stands for the first lit lamp where none is lit: 01's own number, which the panel shows.
 const NO_LAMP: u32 = 64;
 
 // All alternatives of one-alternative clauses, in order.

@@ -114,7 +114,8 @@ fn stopped(p: Problem, s: Place) -> Answer
     }
 }
 
-// The search of an accepted problem, over lent memory that is cleared, and what it leaves there.
+// The search of an accepted problem, over lent memory that is cleared, and what it leaves there. The three slices stay apart, as `plan` is
+// lent them: each end of a search writes others of them.
 fn planned(
     p: Problem,
     allowance: u64,

@@ -1,40 +1,24 @@
 -- A timetable against the clauses, one alternative and one clause at a time. Assumes nothing.
-use mathlib.Core.Path.{◌≡◌, refl}
-use mathlib.Core.Bool.{true, false}
-use Prim.Native.Nat.{ℕ, ◌+◌, ◌-◌, ◌<◌, ◌≤◌}
-use native.Mathlib.Omega.{arith}
+use mathlib.Core.Path.{◌≡◌, refl, ap}
+use mathlib.Core.Bool.{◌&&◌, ◌||◌}
+use Prim.Native.Nat.{ℕ, zero, suc}
+use native.Mathlib.Numerals.{add-one}
+use Rattle.std.specs.List.{list_any, list_all, range_with_len}
 use Rattle.meaning.specs.Problem.{Timetable, satisfied}
 use Rattle.meaning.specs.Verdicts.{some, keeps}
 use Rattle.problem.specs.declared.Problem.{Problem}
 use Rattle.problem.specs.Arcs.{Net, arc, arcs_from}
 use Rattle.problem.specs.Laid.{clause_of, clauses_from}
-use Rattle.problem.proofs.Laying.{arcs-first, arcs-none}
-use Rattle.readers.proofs.Clauses.{clauses-more, clauses-none}
 
-module _ (t : Timetable) (g : Net) (j e : ℕ) where
-  pub some-here : j < e → satisfied t (arc g j) ≡ true → some t (arcs_from g j (e - j)) ≡ true
-  unfolding some
-  some-here h q = rw (arcs-first g j e h, q) refl
+module _ (t : Timetable) where
+  -- one of n alternatives from number j on
+  pub some-any : (g : Net) (j n : ℕ) → list_any (λ i. satisfied t (arc g i)) (range_with_len j n) ≡ some t (arcs_from g j n)
+  unfolding some arcs_from
+  some-any g j zero = refl
+  some-any g j (suc n) = rw (add-one j) (ap (λ b. satisfied t (arc g j) || b) (some-any g (suc j) n))
 
-  pub some-later : j < e → satisfied t (arc g j) ≡ false → some t (arcs_from g j (e - j)) ≡ some t (arcs_from g (j + 1) (e - (j + 1)))
-  unfolding some
-  some-later h q = rw (arcs-first g j e h, q) refl
-
-  pub some-none : e ≤ j → some t (arcs_from g j (e - j)) ≡ false
-  unfolding some
-  some-none h = rw (arcs-none g j e h) refl
-
-module _ (t : Timetable) (p : Problem) (k : ℕ) where
-  pub keeps-not : k < p.m → some t (clause_of p k) ≡ false → keeps t (clauses_from p k (p.m - k)) ≡ false
-  unfolding keeps
-  keeps-not h q = rw (clauses-more p k (p.m - k) (λ z. omega arith), q) refl
-
-  pub keeps-more : k < p.m → some t (clause_of p k) ≡ true → keeps t (clauses_from p k (p.m - k)) ≡ keeps t (clauses_from p (k + 1) (p.m - (k + 1)))
-  unfolding keeps
-  keeps-more h q =
-      let z : p.m - k - 1 ≡ p.m - (k + 1) = omega arith in
-      rw (clauses-more p k (p.m - k) (λ z. omega arith), q, z) refl
-
-  pub keeps-all : p.m ≤ k → keeps t (clauses_from p k (p.m - k)) ≡ true
-  unfolding keeps
-  keeps-all h = rw (clauses-none p k (p.m - k) (omega arith)) refl
+  -- each of n clauses from number k on
+  pub keeps-all : (p : Problem) (k n : ℕ) → list_all (λ i. some t (clause_of p i)) (range_with_len k n) ≡ keeps t (clauses_from p k n)
+  unfolding keeps clauses_from
+  keeps-all p k zero = refl
+  keeps-all p k (suc n) = rw (add-one k) (ap (λ b. some t (clause_of p k) && b) (keeps-all p (suc k) n))

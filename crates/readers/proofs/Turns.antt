@@ -10,7 +10,7 @@ use Rattle.meaning.specs.Reasons.{onward, kind, each_read, read}
 use Rattle.problem.specs.declared.Problem.{Problem}
 use Rattle.problem.specs.Arcs.{at, arc, arcs_from}
 use Rattle.problem.specs.Laid.{arcs, clause_of, clauses_from}
-use Rattle.readers.specs.declared.Facts.{Facts}
+use Rattle.readers.specs.declared.facts.Facts.{Facts}
 use Rattle.readers.specs.Standing.{held, facts_in, Decided, Stands}
 use Rattle.readers.proofs.Clauses.{clauses-more}
 use Rattle.readers.proofs.Standings.{decided-more, decided-later}

@@ -4,7 +4,7 @@ use Rattle.meaning.specs.Problem.{Alternative}
 use Rattle.problem.specs.declared.Problem.{Problem}
 use Rattle.problem.specs.Arcs.{at, arc, Known, places}
 use Rattle.problem.specs.Laid.{arcs}
-use Rattle.readers.specs.declared.Facts.{Facts}
+use Rattle.readers.specs.declared.facts.Facts.{Facts}
 
 -- the numbers that stand in the buffer
 abbrev pub held : Facts → List ℕ
@@ -16,7 +16,6 @@ facts_in p f = map (arc (arcs p)) (held f)
 
 -- the first j alternatives are decided: no more facts than these stand in the buffer
 pub record Decided (p : Problem) (j : ℕ) (f : Facts) : Type 0 where
-  pub within : f.from ≤ places
   pub few : places ≤ f.from + j
   pub known : Known (arcs p) p.n (held f)
 

@@ -2,7 +2,9 @@
 // reasons down one clause at a time, the other tests a timetable against every clause.
 #![tactic(auto)]
 
-ghost use Rattle.std.specs.Prelude.{◌≡◌, [], ◌∷◌, map, ◌+◌, ◌-◌, ◌*◌, ◌<◌, ◌≤◌, length, ◌-ℤ◌};
+mod facts;
+
+ghost use Rattle.std.specs.Prelude.{◌≡◌, map, ◌-◌, ◌*◌, ◌<◌, ◌≤◌, length, ◌-ℤ◌};
 ghost use Rattle.std.proofs.Math.IntN.{sub_ℕ};
 ghost use Rattle.std.specs.Int.Signed.{le_z};
 ghost use Rattle.meaning.specs.Limits.{row_bytes};
@@ -10,12 +12,13 @@ ghost use Rattle.meaning.specs.Problem.{satisfied};
 ghost use Rattle.meaning.specs.Plain.{times_of};
 ghost use Rattle.meaning.specs.Reasons.{numbers, blank, all_blank, loops, cycle_over, kind, read, is_reading};
 ghost use Rattle.meaning.specs.Verdicts.{some, keeps, reasons_verdict, timetable_verdict};
-ghost use Rattle.problem.specs.Arcs.{bias, arc, Arc, Known, places};
+ghost use Rattle.problem.specs.Arcs.{bias, arc, Arc, Known};
 ghost use Rattle.problem.specs.Laid.{arcs, clause_of, clauses_from, clauses_in};
 ghost use Rattle.problem.specs.Reads.{given};
 ghost use Rattle.readers.specs.Standing.{held, facts_in, Stands};
 ghost use Rattle.readers.specs.Leaves.{kind_of, dead_rows, Answers, said};
 
+use facts::Facts;
 use meaning::{Refusal, Verdict};
 use problem::{ALTERNATIVES, BIAS, Problem, ROW};
 
@@ -29,53 +32,12 @@ const DEAD_MARK: u8 = 200;
 // The numbers of arcs lie below.
 const ARCS_END: u8 = 128;
 
-// How many numbers the buffer of a standing's facts holds.
-const PLACES: usize = ALTERNATIVES + 1;
-
 // What a row is that is read: a cycle row, 240, or 200 + d.
 #[derive(Clone, Copy)]
 enum Mark {
     Ring,
     Onward,
     Dead(usize),
-}
-
-// The facts of a standing: the numbers of their arcs, the newest first, from a place of the buffer on.
-#[derive(Clone, Copy)]
-struct Facts {
-    buffer: [u8; PLACES],
-    from: usize,
-}
-
-impl Facts {
-    // No facts.
-    fn none() -> Facts
-        ensures { (held result ≡ []) × (result.from ≡ places) }
-    {
-        Facts {
-            buffer: [0; PLACES],
-            from: PLACES,
-        }
-    }
-
-    // The facts with arc j before them.
-    fn with(self, j: u8) -> Facts
-        requires { (1 ≤ self.from) × (self.from ≤ places) }
-        ensures { (held result ≡ j ∷ held self) × (result.from + 1 ≡ self.from) }
-    {
-        let mut buffer = self.buffer;
-        let from = self.from - 1;
-        buffer[from] = j;
-        Facts { buffer, from }
-    }
-
-    // The numbers of the arcs.
-    fn numbers(&self) -> &[u8]
-        requires { self.now.from ≤ places }
-        ensures { result.now ≡ held self.now }
-    {
-        &self.buffer[self.from..]
-    }
 }
 
 // Whether all bytes are 255.
@@ -149,7 +111,7 @@ fn is_cycle(p: Problem, facts: &[u8], walked: &[u8]) -> bool
 
 // Whether a row is a cycle row over the facts.
 fn is_cycle_row(p: Problem, facts: Facts, row: &[u8; ROW]) -> bool
-    requires { Known (arcs p) p.n (held facts) × (facts.from ≤ places) }
+    requires { Known (arcs p) p.n (held facts) }
     ensures { result ≡ cycle_over (facts_in p facts) row.now }
 {
     let (walked, filling) = row.split_at(row_len(row));
@@ -238,12 +200,7 @@ fn is_some_satisfied(p: Problem, times: &[i32], k: usize) -> bool
     requires { (p.n ≤ length times.now) × (k < p.m) }
     ensures { result ≡ some (times_of times.now) (clause_of p k) }
 {
-    for j in p.starts[k]..p.starts[k + 1] {
-        if is_satisfied(p, times, usize::from(j)) {
-            return true;
-        }
-    }
-    false
+    (p.starts[k]..p.starts[k + 1]).any(|j| is_satisfied(p, times, j as usize))
 }
 
 // Whether the first n times keep the problem.
@@ -251,12 +208,7 @@ fn is_kept(p: Problem, times: &[i32]) -> bool
     requires { p.n ≤ length times.now }
     ensures { result ≡ keeps (times_of times.now) (clauses_in p) }
 {
-    for k in 0..p.m {
-        if !is_some_satisfied(p, times, k) {
-            return false;
-        }
-    }
-    true
+    (0..p.m).all(|k| is_some_satisfied(p, times, k))
 }
 
 // What a reader says, by its answer or the refusal.

@@ -5,7 +5,7 @@ use Rattle.meaning.specs.Reasons.{cycle_over}
 use Rattle.problem.specs.declared.Problem.{Problem}
 use Rattle.problem.specs.Arcs.{at, arc}
 use Rattle.problem.specs.Laid.{arcs}
-use Rattle.readers.specs.declared.Facts.{Facts}
+use Rattle.readers.specs.declared.facts.Facts.{Facts}
 use Rattle.readers.specs.Standing.{held, facts_in}
 use Rattle.readers.proofs.Standings.{decided-more}
 use Rattle.readers.proofs.Readings.{dead-other, dead-later, cycles-none, cycles-no, cycles-row, cycles-end}
@@ -28,7 +28,7 @@ is_cycle_row-requires c =
     let later : c.args.d < c.args.p.m = grind (arith, nat_tests) in
     let n : c.loop-j.j < at c.args.p.starts c.args.p.m = omega (arith, c.args.p.laid.ends (c.args.d + 1) (omega arith)) in
     let d = decided-more c.args.p _ c.loop-j.j c.args.facts c.with.result c.requires.decided c.with.ensures.0 c.with.ensures.1 (c.args.p.laid.alternative _ n) in
-    (d.known, d.within)
+    d.known
 
 pub returns-in_err-row : goal.returns-in_err-row
 returns-in_err-row c = rw c.from_residual.ensures (c.loop-j.invariant ∙ cycles-none _ _ _ _ _ c.loop-j-test.true c.in_err-row.ensures.cases)

@@ -1,15 +1,17 @@
--- `readers::is_kept` meets its contract: the clauses from k on are kept where all are. Assumes nothing.
-use mathlib.Core.Path.{sym, ◌∙◌}
-use Rattle.readers.proofs.Keeping.{keeps-not, keeps-more, keeps-all}
+-- `readers::is_kept` meets its contract: the closure asks of each clause what all are asked. Assumes nothing.
+use Rattle.std.proofs.Common.{◌≡◌, ◌-◌, refl, ◌∙◌, arith, rules}
+use borrow.Author.Tests.{tests}
+use Rattle.std.proofs.lemmas.Iterator.{YieldsList-from_range}
+use Rattle.std.proofs.lemmas.Iterator.Search.{all_from_yields_List}
+use Rattle.meaning.specs.Plain.{times_of}
+use Rattle.meaning.specs.Verdicts.{some}
+use Rattle.problem.specs.Laid.{clause_of}
+use Rattle.readers.proofs.Keeping.{keeps-all}
 use Rattle.readers.proofs.is_kept.Goals as goal
 
-pub returns-then-not-is_some_satisfied : goal.returns-then-not-is_some_satisfied
-returns-then-not-is_some_satisfied c =
-    sym (c.loop-k.invariant ∙ keeps-not _ _ _ c.loop-k-test.true (sym c.is_some_satisfied.ensures ∙ c.if-not-is_some_satisfied.true))
-
-pub loop-k-preserved : goal.loop-k-preserved
-loop-k-preserved c =
-    c.loop-k.invariant ∙ keeps-more _ _ _ c.loop-k-test.true (sym c.is_some_satisfied.ensures ∙ c.if-not-is_some_satisfied.false)
-
 pub returns : goal.returns
-returns c = sym (c.loop-k.invariant ∙ keeps-all _ _ _ c.loop-k-test.false)
+returns c =
+    let p = c.args.p in
+    let n : p.m - 0 ≡ p.m = omega arith in
+    all_from_yields_List (λ k. some (times_of c.args.times.now) (clause_of p k)) _ _ _ c.all.ensures.ran (YieldsList-from_range 0 p.m p.m refl n) (λ x b q r. search (rules, tests))
+    ∙ keeps-all (times_of c.args.times.now) p 0 p.m

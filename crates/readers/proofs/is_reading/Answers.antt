@@ -6,7 +6,7 @@ use Rattle.meaning.specs.Reasons.{blank, read}
 use Rattle.problem.specs.declared.Problem.{Problem}
 use Rattle.problem.specs.Arcs.{arc}
 use Rattle.problem.specs.Laid.{arcs, clauses_from, clauses_in}
-use Rattle.readers.specs.declared.Facts.{Facts}
+use Rattle.readers.specs.declared.facts.Facts.{Facts}
 use Rattle.readers.specs.Standing.{held, facts_in}
 use Rattle.readers.proofs.Rows.{whole-none, whole-some}
 use Rattle.readers.proofs.is_reading.Goals as goal

@@ -5,7 +5,7 @@
 ghost use Rattle.std.specs.Prelude.{◌≡◌, ◌≤◌, ◌<◌, length};
 
 use problem::EVENTS;
-use standing::{Day, ENTRIES};
+use standing::{Answered, Day, ENTRIES};
 
 // What an entry holds where there is no distance.
 const NONE: i32 = 2147483647;
@@ -37,32 +37,25 @@ fn write_entry(z: i32) {
 // Writes the entries of a row.
 fn write_row(row: &[i32]) {
     io::write_all(1, b" |");
-    let mut v = 0;
-    while v < row.len() {
-        write_entry(row[v]);
-        v += 1;
+    for &z in row {
+        write_entry(z);
     }
 }
 
 // Writes the first n rows of n entries; none where there are more events than there may be.
-fn write_rows(n: usize, entries: &[i32])
-    requires { length entries.now ≡ 576 }
-{
+fn write_rows(n: usize, entries: &[i32; ENTRIES]) {
     if n <= EVENTS {
-        let mut u = 0;
-        while u < n {
+        for u in 0..n {
             write_row(&entries[u * EVENTS..u * EVENTS + n]);
-            u += 1;
         }
     }
 }
 
-// Writes the number that was answered, and the day.
-fn write_answered(number: u8, day: Day) {
+// Writes what was answered: the number, and the day.
+fn write_answered(answered: &Answered) {
     io::write_all(1, b": ");
-    io::print_decimal(1, number as u64);
-    let entries = day.entries;
-    write_rows(day.n as usize, &entries[..]);
+    io::print_decimal(1, u64::from(answered.number));
+    write_rows(answered.day.n as usize, &answered.day.entries);
     io::write_all(1, b"\n");
 }
 
@@ -77,9 +70,8 @@ fn fresh(n: u32) -> Day {
     io::write_all(1, b"  a fresh day of ");
     io::print_decimal(1, n as u64);
     let begun = planner::fresh_day(n);
-    let day = begun.day;
-    write_answered(begun.number, day);
-    day
+    write_answered(&begun);
+    begun.day
 }
 
 // Adds a fact or its opposite to a day, and shows the day afterwards.
@@ -92,9 +84,8 @@ fn add_to(day: Day, x: i32, y: i32, c: i32, opposite: bool) -> Day {
     write_whole(y);
     write_whole(c);
     let added = planner::add_fact(day, x, y, c, opposite);
-    let after = added.day;
-    write_answered(added.number, after);
-    after
+    write_answered(&added);
+    added.day
 }
 
 // Adds a fact.
@@ -113,7 +104,7 @@ fn read_into(day: Day, times: &mut [i32]) {
     io::write_all(1, b"  read off into ");
     io::print_decimal(1, times.len() as u64);
     io::write_all(1, b": ");
-    io::print_decimal(1, number as u64);
+    io::print_decimal(1, u64::from(number));
     write_row(times);
     io::write_all(1, b"\n");
 }
@@ -127,12 +118,11 @@ fn read_off(day: Day, elements: usize)
 }
 
 // A day with another entry from one event to another.
-fn with_entry(day: Day, from: usize, to: usize, z: i32) -> Day
+fn with_entry(mut day: Day, from: usize, to: usize, z: i32) -> Day
     requires { (from < 24) × (to < 24) }
 {
-    let mut lent = day;
-    lent.entries[from * EVENTS + to] = z;
-    lent
+    day.entries[from * EVENTS + to] = z;
+    day
 }
 
 // A lent day of three events: the distances from 0 to 1, from 1 to 2 and from 0 to 2.

@@ -5,6 +5,7 @@
 ghost use Rattle.std.specs.Prelude.{◌≡◌, ◌*◌, ◌^◌, ◌<◌, ◌≤◌, length};
 ghost use Rattle.meaning.specs.Limits.{most_events};
 
+use dialogue::Writer;
 use problem::{EVENTS, ROW};
 
 // How many elements are lent: the timetable, the picks, the reasons, and the reasons of D4's second half.
@@ -51,14 +52,13 @@ fn show_lent<const T: usize, const P: usize, const R: usize>(
         &mut picks,
         &mut reasons,
     );
-    let mut reply = [0; REPLY];
-    let said = exchange::put_answer(&mut reply, answer);
-    let end = exchange::put_lent(&mut reply, said, &times, &picks, &reasons);
+    let mut room = [0; REPLY];
+    let mut reply = Writer::new(&mut room);
+    exchange::put_answer(&mut reply, answer);
+    exchange::put_lent(&mut reply, &times, &picks, &reasons);
     io::write_all(1, name);
     io::write_all(1, b": ");
-    if let Some(front) = reply.get(..end) {
-        io::write_all(1, front);
-    }
+    io::write_all(1, reply.text());
     io::write_all(1, b"\n");
 }
 

@@ -1,6 +1,7 @@
 // Prints the worked cases of sliders, 01's and A2's, and cases at the edges, one to a line, each in both uses.
 #![tactic(auto)]
 
+use dialogue::Writer;
 use slider::{Kind, Refusal, Travel, Use};
 
 // A whole number of 32 bits at its longest: a sign and ten digits.
@@ -8,9 +9,10 @@ const WHOLE: usize = 11;
 
 // Writes a whole number in decimal, with its sign.
 fn write_whole(z: i32) {
-    let mut text = [0u8; WHOLE];
-    let end = dialogue::put_signed(&mut text[..], 0, z);
-    io::write_all(1, &text[..end]);
+    let mut room = [0u8; WHOLE];
+    let mut text = Writer::new(&mut room);
+    text.put_signed(z);
+    io::write_all(1, text.text());
 }
 
 // Writes an answer: the bound, or the refusal number.

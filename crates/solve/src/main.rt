@@ -26,28 +26,14 @@ pub enum Saying {
 }
 
 // What is said of an answer of `plan`.
+#[tactic(auto, unfolding(crate::specs::Says::of_answer))]
 fn saying_of(answer: Answer) -> Saying
     ensures { result ≡ of_answer answer }
 {
     match answer {
-        Answer::Plan {
-            visits: _,
-            before: _,
-        } => Saying::Sat,
-        Answer::None {
-            visits: _,
-            before: _,
-            rows: _,
-        } => Saying::Unsat,
-        Answer::Unlisted {
-            visits: _,
-            before: _,
-            rows: _,
-        } => Saying::Unsat,
-        Answer::Stopped {
-            visits: _,
-            before: _,
-        } => Saying::Unknown,
+        Answer::Plan { .. } => Saying::Sat,
+        Answer::None { .. } | Answer::Unlisted { .. } => Saying::Unsat,
+        Answer::Stopped { .. } => Saying::Unknown,
         Answer::Refused { number } => Saying::Refused { number, place: 0 },
     }
 }
@@ -81,6 +67,7 @@ fn solution(text: &[u8]) -> Saying
 }
 
 // Writes what is said.
+#[tactic(auto, unfolding(crate::specs::Says::said, grammar::specs::Grammar::bytes))]
 fn put_saying(line: &mut Writer, saying: Saying)
     ensures { Puts line.old line.new (said saying) }
 {

@@ -33,7 +33,7 @@ fn read_more(mut input: Stdin, text: &mut [u8], at: usize) -> usize
 }
 
 // The reply to a line, without its line feed; none where the line is malformed.
-fn answer(line: &[u8], lent: &mut Lent, reply: &mut [u8]) -> Option<usize> {
+fn answer(line: &[u8], lent: &mut Lent, reply: &mut Writer) -> Option<()> {
     let at = dialogue::until(line, 0, b' ');
     match &line[..at] {
         b"plan" => operations::plan(line, at, lent, reply),
@@ -49,14 +49,14 @@ fn answer(line: &[u8], lent: &mut Lent, reply: &mut [u8]) -> Option<usize> {
 }
 
 // Answers a line; one that is too long is none, and malformed whatever it holds. Each reply is written out at once.
-fn serve_line(line: Option<&[u8]>, lent: &mut Lent, reply: &mut [u8]) {
-    let to = match line.and_then(|line| answer(line, lent, reply)) {
-        Some(bytes) => dialogue::put(reply, bytes, b"\n"),
-        None => dialogue::put(reply, 0, b"malformed\n"),
-    };
-    if let Some(text) = reply.get(..to) {
-        io::write_all(STANDARD_OUTPUT, text);
+fn serve_line(line: Option<&[u8]>, lent: &mut Lent, room: &mut [u8]) {
+    let mut reply = Writer::new(room);
+    if answered(line, lent, &mut reply).is_none() {
+        reply.at = 0;
+        reply.put(b"malformed");
     }
+    reply.put(b"\n");
+    io::write_all(STANDARD_OUTPUT, reply.text());
 }
 
 // Answers each line of text that ends there, and gives the place after the last of them, if there is one. The first bytes, up to `from`,

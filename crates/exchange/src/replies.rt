@@ -147,7 +147,7 @@ pub fn put_refused_at(reply: &mut Writer, number: u8, place: usize)
     put_next(reply, place as u64)
 }
 
-// A script's refusal as a program prints it: its number, and its place where it has one.
+// A script's refusal as a program prints it: its number, and its place where it has one. The number is a byte, as in each reply.
 pub fn put_script_refused(line: &mut Writer, number: u8, place: usize)
     ensures { Puts line.old line.new (script_refused_text number place) }
 {

@@ -5,6 +5,7 @@ ghost use Rattle.std.specs.Prelude.{◌+◌, ◌≤◌, ◌<◌, length, IfSome}
 
 mod operations;
 
+use dialogue::Writer;
 use std::io::{Read, Stdin};
 
 // Where replies are written.
@@ -51,7 +52,8 @@ fn answer(line: &[u8], lent: &mut Lent, reply: &mut Writer) -> Option<()> {
 // Answers a line; one that is too long is none, and malformed whatever it holds. Each reply is written out at once.
 fn serve_line(line: Option<&[u8]>, lent: &mut Lent, room: &mut [u8]) {
     let mut reply = Writer::new(room);
-    if answered(line, lent, &mut reply).is_none() {
+    let answered = line.and_then(|line| answer(line, lent, &mut reply));
+    if answered.is_none() {
         reply.at = 0;
         reply.put(b"malformed");
     }

@@ -1,16 +1,17 @@
-// The eight requests: each reads the rest of its line from `at` on, calls the planner and writes the reply.
-// Each answers how long the reply is, or none where the line is malformed.
-ghost use Rattle.std.specs.Prelude.{◌≤◌, IfSome, length};
+// The eight requests: each reads the rest of its line from `at` on, calls the planner and writes the reply; none where the line is malformed,
+// and then nothing is written.
+ghost use Rattle.std.specs.Prelude.{◌≤◌, IfOk, IfSome, length};
 ghost use Rattle.meaning.specs.Limits.{most_alternatives, most_clauses};
 
 use super::Lent;
-use dialogue::{float_of, number_at, read_list};
+use dialogue::{Writer, float_of, number_at, read_list};
 use exchange::{
     Head, Lists, asked_at, count_at, head_at, list_at, lists_at, put_answer, put_bound, put_day,
     put_length, put_lent, put_panel, put_problem, put_refused, put_refused_at, put_room,
     put_verdict,
 };
-use script::{Script, Written};
+use meaning::Refusal;
+use script::{Refused, Script};
 use slider::{Kind, Travel, Use};
 use standing::{Day, ENTRIES};
 
@@ -37,7 +38,7 @@ fn problem_at(line: &[u8], at: usize, lent: &mut Lent) -> Option<(u32, Lists, us
 }
 
 // plan N ALLOWANCE T P R K t1 … tK M e1 … eM
-pub(crate) fn plan(line: &[u8], at: usize, lent: &mut Lent, reply: &mut [u8]) -> Option<usize> {
+pub(crate) fn plan(line: &[u8], at: usize, lent: &mut Lent, reply: &mut Writer) -> Option<()> {
     let (head, place) = head_at(
         line,
         at,
@@ -47,7 +48,7 @@ pub(crate) fn plan(line: &[u8], at: usize, lent: &mut Lent, reply: &mut [u8]) ->
     )?;
     let (lists, end) = lists_at(line, place, &mut lent.triples, &mut lent.counts)?;
     line_ends(line, end)?;
-    Some(plan_lent(
+    plan_lent(
         head,
         &lent.triples[..lists.triples],
         &lent.counts[..lists.counts],
@@ -55,7 +56,8 @@ pub(crate) fn plan(line: &[u8], at: usize, lent: &mut Lent, reply: &mut [u8]) ->
         &mut lent.picks,
         &mut lent.reasons,
         reply,
-    ))
+    );
+    Some(())
 }
 
 // The plan with so much of this memory lent, and its reply. The memory comes one by one: parts of several fields behind one reference are not
@@ -67,8 +69,8 @@ fn plan_lent(
     timetable: &mut [i32],
     picks: &mut [u8],
     reasons: &mut [u8],
-    reply: &mut [u8],
-) -> usize
+    reply: &mut Writer,
+)
     requires { (head.timetable ≤ length timetable.old) × (head.picks ≤ length picks.old) × (head.reasons ≤ length reasons.old) }
 {
     let timetable = &mut timetable[..head.timetable];
@@ -86,12 +88,12 @@ fn plan_lent(
         picks,
         reasons,
     );
-    let to = put_answer(reply, answer);
-    put_lent(reply, to, timetable, picks, reasons)
+    put_answer(reply, answer);
+    put_lent(reply, timetable, picks, reasons)
 }
 
 // reasons N K t1 … tK M e1 … eM L b1 … bL
-pub(crate) fn reasons(line: &[u8], at: usize, lent: &mut Lent, reply: &mut [u8]) -> Option<usize> {
+pub(crate) fn reasons(line: &[u8], at: usize, lent: &mut Lent, reply: &mut Writer) -> Option<()> {
     let (n, lists, place) = problem_at(line, at, lent)?;
     let (count, place) = list_at(line, place, &mut lent.reasons)?;
     line_ends(line, place)?;
@@ -101,11 +103,12 @@ pub(crate) fn reasons(line: &[u8], at: usize, lent: &mut Lent, reply: &mut [u8])
         &lent.counts[..lists.counts],
         &lent.reasons[..count],
     );
-    Some(put_verdict(reply, verdict))
+    put_verdict(reply, verdict);
+    Some(())
 }
 
 // times N K t1 … tK M e1 … eM L m1 … mL
-pub(crate) fn times(line: &[u8], at: usize, lent: &mut Lent, reply: &mut [u8]) -> Option<usize> {
+pub(crate) fn times(line: &[u8], at: usize, lent: &mut Lent, reply: &mut Writer) -> Option<()> {
     let (n, lists, place) = problem_at(line, at, lent)?;
     let (count, place) = list_at(line, place, &mut lent.timetable)?;
     line_ends(line, place)?;
@@ -115,11 +118,12 @@ pub(crate) fn times(line: &[u8], at: usize, lent: &mut Lent, reply: &mut [u8]) -
         &lent.counts[..lists.counts],
         &lent.timetable[..count],
     );
-    Some(put_verdict(reply, verdict))
+    put_verdict(reply, verdict);
+    Some(())
 }
 
 // lamps N K t1 … tK M e1 … eM
-pub(crate) fn lamps(line: &[u8], at: usize, lent: &mut Lent, reply: &mut [u8]) -> Option<usize> {
+pub(crate) fn lamps(line: &[u8], at: usize, lent: &mut Lent, reply: &mut Writer) -> Option<()> {
     let (n, lists, place) = problem_at(line, at, lent)?;
     line_ends(line, place)?;
     let panel = planner::lamps(
@@ -127,11 +131,12 @@ pub(crate) fn lamps(line: &[u8], at: usize, lent: &mut Lent, reply: &mut [u8]) -
         &lent.triples[..lists.triples],
         &lent.counts[..lists.counts],
     );
-    Some(put_panel(reply, panel))
+    put_panel(reply, panel);
+    Some(())
 }
 
 // slide KIND A B POSITION USE
-pub(crate) fn slide(line: &[u8], at: usize, reply: &mut [u8]) -> Option<usize> {
+pub(crate) fn slide(line: &[u8], at: usize, reply: &mut Writer) -> Option<()> {
     let (kind, place) = number_at(line, at, 2)?;
     let (a, place) = number_at(line, place, ANY)?;
     let (b, place) = number_at(line, place, ANY)?;
@@ -139,11 +144,13 @@ pub(crate) fn slide(line: &[u8], at: usize, reply: &mut [u8]) -> Option<usize> {
     let (used, place) = number_at(line, place, 1)?;
     line_ends(line, place)?;
     let kind = kind_of(kind, a, b)?;
-    let bound = planner::slide(kind, float_of(position), use_of(used));
-    Some(put_bound(reply, bound))
+    let bound = planner::slide(kind, float_of(position), use_of(used)).map_err(u8::from);
+    put_bound(reply, bound);
+    Some(())
 }
 
-// The kind of slider that a number stands for, with its travel, its work or its number; only a span has both.
+// The kind of slider that a number stands for, with its travel, its work or its number; only a span has both. A function, as the kind is the
+// slider's own type and the number the dialogue's.
 fn kind_of(kind: u32, a: u32, b: u32) -> Option<Kind> {
     match (kind, b) {
         (0, _) => Some(Kind::Span(Travel {
@@ -165,43 +172,38 @@ fn use_of(used: u32) -> Use {
 }
 
 // script L b1 … bL
-pub(crate) fn script(line: &[u8], at: usize, lent: &mut Lent, reply: &mut [u8]) -> Option<usize> {
+pub(crate) fn script(line: &[u8], at: usize, lent: &mut Lent, reply: &mut Writer) -> Option<()> {
     let (count, place) = list_at(line, at, &mut lent.reasons)?;
     line_ends(line, place)?;
     let script = planner::read_script(&lent.reasons[..count]);
-    Some(put_script(reply, script))
+    put_script(reply, script);
+    Some(())
 }
 
-// What a script gives: the refusal, or the problem.
-fn put_script(reply: &mut [u8], script: Script) -> usize
-    requires { (script.alternatives ≤ most_alternatives) × (script.clauses ≤ most_clauses) }
+// What a script gives: the problem, or the refusal.
+fn put_script(reply: &mut Writer, script: Result<Script, Refused>)
+    requires { IfOk script (λ (s : Script). (s.rules.alternatives ≤ most_alternatives) × (s.rules.clauses ≤ most_clauses)) }
 {
-    if script.number != 0 {
-        return put_refused_at(reply, script.number, script.place);
+    match script {
+        Ok(script) => put_problem(reply, script.n, script.triples(), script.counts()),
+        Err(refused) => put_refused_at(reply, u8::from(refused.refusal), refused.place),
     }
-    let triples = script.triples;
-    let counts = script.counts;
-    put_problem(
-        reply,
-        script.n,
-        &triples[..3 * script.alternatives],
-        &counts[..script.clauses],
-    )
 }
 
 // write R N K t1 … tK M e1 … eM
-pub(crate) fn write(line: &[u8], at: usize, lent: &mut Lent, reply: &mut [u8]) -> Option<usize> {
+pub(crate) fn write(line: &[u8], at: usize, lent: &mut Lent, reply: &mut Writer) -> Option<()> {
     let (size, place) = count_at(line, at, lent.reasons.len())?;
     let (n, lists, place) = problem_at(line, place, lent)?;
     line_ends(line, place)?;
-    Some(write_lent(
+    write_lent(
         n,
         &lent.triples[..lists.triples],
         &lent.counts[..lists.counts],
         &mut lent.reasons,
         size,
         reply,
-    ))
+    );
+    Some(())
 }
 
 // The text written into so much of this room, and its reply.
@@ -211,27 +213,26 @@ fn write_lent(
     counts: &[u32],
     room: &mut [u8],
     size: usize,
-    reply: &mut [u8],
-) -> usize
+    reply: &mut Writer,
+)
     requires { size ≤ length room.old }
 {
     let room = &mut room[..size];
     room.fill(FILL);
-    let written = planner::write_script(n, triples, counts, room);
-    let to = put_written(reply, written);
-    put_room(reply, to, room)
+    put_written(reply, planner::write_script(n, triples, counts, room));
+    put_room(reply, room)
 }
 
 // What writing gives: the length of the text, or the refusal.
-fn put_written(reply: &mut [u8], written: Written) -> usize {
+fn put_written(reply: &mut Writer, written: Result<usize, Refusal>) {
     match written {
-        Written::Text(length) => put_length(reply, length),
-        Written::Refused(number) => put_refused(reply, number),
+        Ok(length) => put_length(reply, length),
+        Err(refusal) => put_refused(reply, u8::from(refusal)),
     }
 }
 
 // day N O X Y C T d1 … d576
-pub(crate) fn day(line: &[u8], at: usize, lent: &mut Lent, reply: &mut [u8]) -> Option<usize> {
+pub(crate) fn day(line: &[u8], at: usize, lent: &mut Lent, reply: &mut Writer) -> Option<()> {
     let (asked, place) = asked_at(line, at, lent.timetable.len())?;
     let mut entries = [0; ENTRIES];
     let place = read_list(line, place, &mut entries)?;
@@ -245,5 +246,6 @@ pub(crate) fn day(line: &[u8], at: usize, lent: &mut Lent, reply: &mut [u8]) -> 
     let fact = asked.fact;
     let added = planner::add_fact(day, fact.x, fact.y, fact.c, asked.opposite);
     let off = planner::read_day(added.day, timetable);
-    Some(put_day(reply, added.number, off, &added.day.entries, timetable))
+    put_day(reply, added.number, off, &added.day.entries, timetable);
+    Some(())
 }

@@ -36,13 +36,13 @@ pub numbers-none : length (numbers []) ≡ 0
 unfolding numbers
 numbers-none = refl
 
-pub numbers-hit : (b : ℕ) (bs : List ℕ) → b ≡ blank_byte → length (numbers (b ∷ bs)) ≡ 0
+pub numbers-end : (b : ℕ) (bs : List ℕ) → b ≡ blank_byte → length (numbers (b ∷ bs)) ≡ 0
 unfolding numbers
-numbers-hit b bs e = rw (eq-eqb b blank_byte e) refl
+numbers-end b bs e = rw (eq-eqb b blank_byte e) refl
 
-pub numbers-miss : (b : ℕ) (bs : List ℕ) → (b ≡ blank_byte → ⊥) → length (numbers (b ∷ bs)) ≡ length (numbers bs) + 1
+pub numbers_more : (b : ℕ) (bs : List ℕ) → (b ≡ blank_byte → ⊥) → length (numbers (b ∷ bs)) ≡ length (numbers bs) + 1
 unfolding numbers
-numbers-miss b bs n = rw (ne_eqb b blank_byte n, add-one (length (numbers bs))) refl
+numbers_more b bs n = rw (ne_eqb b blank_byte n, add-one (length (numbers bs))) refl
 
 filled-rest : (row : List ℕ) → filled row ≡ blank (drop (length (numbers row)) row)
 unfolding filled numbers blank

@@ -17,10 +17,10 @@ module _ (cs : List Clause) (bytes : List ℕ) (rows : List (List ℕ)) (e : row
   unfolding rows_of
   told = ap (read row_bytes cs 0 []) (sym (e ∙ chunks-cut row_bytes (length bytes / row_bytes) bytes))
 
-  pub whole-none : read row_bytes cs 0 [] rows ≡ none → is_reading row_bytes cs bytes ≡ false
+  pub whole-no : read row_bytes cs 0 [] rows ≡ none → is_reading row_bytes cs bytes ≡ false
   unfolding is_reading ends
-  whole-none q = rw (told, q) refl
+  whole-no q = rw (told, q) refl
 
-  pub whole-some : (rest : List (List ℕ)) → read row_bytes cs 0 [] rows ≡ some rest → is_reading row_bytes cs bytes ≡ (all_blank row_bytes rest && blank (drop (length bytes / row_bytes * row_bytes) bytes))
+  pub whole_row : (rest : List (List ℕ)) → read row_bytes cs 0 [] rows ≡ some rest → is_reading row_bytes cs bytes ≡ (all_blank row_bytes rest && blank (drop (length bytes / row_bytes * row_bytes) bytes))
   unfolding is_reading ends
-  whole-some rest q = rw (told, q) refl
+  whole_row rest q = rw (told, q) refl

@@ -11,8 +11,8 @@ abbrev pub held : Facts → List ℕ
 held f = drop f.from f.buffer
 
 -- the facts that they stand for
-abbrev pub facts_in : Problem → Facts → List Alternative
-facts_in p f = map (arc (arcs p)) (held f)
+abbrev pub facts_from : Problem → Facts → List Alternative
+facts_from p f = map (arc (arcs p)) (held f)
 
 -- the first j alternatives are decided: no more facts than these stand in the buffer
 pub record Decided (p : Problem) (j : ℕ) (f : Facts) : Type 0 where

@@ -15,7 +15,7 @@ ghost use Rattle.meaning.specs.Verdicts.{some, keeps, reasons_verdict, timetable
 ghost use Rattle.problem.specs.Arcs.{bias, arc, Arc, Known};
 ghost use Rattle.problem.specs.Laid.{arcs, clause_of, clauses_from, clauses_in};
 ghost use Rattle.problem.specs.Reads.{given};
-ghost use Rattle.readers.specs.Standing.{held, facts_in, Stands};
+ghost use Rattle.readers.specs.Standing.{held, facts_from, Stands};
 ghost use Rattle.readers.specs.Leaves.{kind_of, dead_rows, Answers, said};
 
 use facts::Facts;
@@ -112,7 +112,7 @@ fn is_cycle(p: Problem, facts: &[u8], walked: &[u8]) -> bool
 // Whether a row is a cycle row over the facts.
 fn is_cycle_row(p: Problem, facts: Facts, row: &[u8; ROW]) -> bool
     requires { Known (arcs p) p.n (held facts) }
-    ensures { result ≡ cycle_over (facts_in p facts) row.now }
+    ensures { result ≡ cycle_over (facts_from p facts) row.now }
 {
     let (walked, filling) = row.split_at(row_len(row));
     is_blank(filling) && is_cycle(p, facts.numbers(), walked)
@@ -127,7 +127,7 @@ fn dead<'a>(
     d: usize,
 ) -> Option<&'a [[u8; ROW]]>
     requires { Stands p k facts }
-    ensures { Answers (dead_rows (clauses_from p k (p.m - k)) k d (facts_in p facts) rows.now) result }
+    ensures { Answers (dead_rows (clauses_from p k (p.m - k)) k d (facts_from p facts) rows.now) result }
 {
     if !(k..p.m).contains(&d) {
         return None;
@@ -146,7 +146,7 @@ fn dead<'a>(
 // The rows after the reading of the standing with k clauses chosen, from the first row on.
 fn reading<'a>(p: Problem, rows: &'a [[u8; ROW]], k: usize, facts: Facts) -> Option<&'a [[u8; ROW]]>
     requires { Stands p k facts }
-    ensures { Answers (read row_bytes (clauses_from p k (p.m - k)) k (facts_in p facts) rows.now) result }
+    ensures { Answers (read row_bytes (clauses_from p k (p.m - k)) k (facts_from p facts) rows.now) result }
 {
     let (row, mut rest) = rows.split_first()?;
     match mark_of(row)? {

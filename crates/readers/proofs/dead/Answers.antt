@@ -6,13 +6,13 @@ use Rattle.problem.specs.declared.Problem.{Problem}
 use Rattle.problem.specs.Arcs.{at, arc}
 use Rattle.problem.specs.Laid.{arcs}
 use Rattle.readers.specs.declared.facts.Facts.{Facts}
-use Rattle.readers.specs.Standing.{held, facts_in}
+use Rattle.readers.specs.Standing.{held, facts_from}
 use Rattle.readers.proofs.Standings.{decided-more}
 use Rattle.readers.proofs.Readings.{dead-other, dead-later, cycles-none, cycles-no, cycles-row, cycles-end}
 use Rattle.readers.proofs.dead.Goals as goal
 
 -- the alternative, in front of the facts
-tested : (p : Problem) (j : ℕ) (f g : Facts) (row : List ℕ) (b t : Bool) → held g ≡ j ∷ held f → b ≡ cycle_over (facts_in p g) row → b ≡ t → cycle_over (arc (arcs p) j ∷ facts_in p f) row ≡ t
+tested : (p : Problem) (j : ℕ) (f g : Facts) (row : List ℕ) (b t : Bool) → held g ≡ j ∷ held f → b ≡ cycle_over (facts_from p g) row → b ≡ t → cycle_over (arc (arcs p) j ∷ facts_from p f) row ≡ t
 tested p j f g row b t e q r = ap (λ L. cycle_over (map (arc (arcs p)) L) row) (sym e) ∙ sym q ∙ r
 
 pub returns-then-not-contains : goal.returns-then-not-contains

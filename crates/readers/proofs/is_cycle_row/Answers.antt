@@ -3,7 +3,7 @@ use Rattle.std.proofs.Common.{map, sym, ap, ◌∙◌, arith}
 use Rattle.meaning.specs.Reasons.{loops, blank}
 use Rattle.problem.specs.Arcs.{arc}
 use Rattle.problem.specs.Laid.{arcs}
-use Rattle.readers.specs.Standing.{facts_in}
+use Rattle.readers.specs.Standing.{facts_from}
 use Rattle.readers.proofs.Marks.{numbers-few, cycle-unfilled, cycle-filled}
 use Rattle.readers.proofs.is_cycle_row.Goals as goal
 
@@ -12,7 +12,7 @@ split_at-requires c = omega (arith, c.row_len.ensures, numbers-few c.args.row.no
 
 pub returns-then-is_blank : goal.returns-then-is_blank
 returns-then-is_blank c =
-    let fs = facts_in c.args.p c.args.facts in
+    let fs = facts_from c.args.p c.args.facts in
     let parts = c.split_at.ensures in
     c.is_cycle.ensures
     ∙ ap (λ L. loops (map (arc (arcs c.args.p)) L) c.split_at.result.0.now) c.numbers.ensures
@@ -22,4 +22,4 @@ returns-then-is_blank c =
 pub returns-else-is_blank : goal.returns-else-is_blank
 returns-else-is_blank c =
     c.if-is_blank.false
-    ∙ sym (cycle-unfilled (facts_in c.args.p c.args.facts) _ _ c.row_len.ensures (ap blank (sym c.split_at.ensures.back) ∙ sym c.is_blank.ensures ∙ c.if-is_blank.false))
+    ∙ sym (cycle-unfilled (facts_from c.args.p c.args.facts) _ _ c.row_len.ensures (ap blank (sym c.split_at.ensures.back) ∙ sym c.is_blank.ensures ∙ c.if-is_blank.false))

@@ -4,7 +4,7 @@ use borrow.Author.Tests.{tests}
 use Rattle.std.proofs.lemmas.Iterator.{YieldsList-from_slice, IsFirst-from_position, index_from_first}
 use Rattle.meaning.specs.Limits.{blank_byte}
 use Rattle.meaning.specs.Reasons.{numbers}
-use Rattle.readers.proofs.Marks.{numbers-none, numbers-hit, numbers-miss}
+use Rattle.readers.proofs.Marks.{numbers-none, numbers-end, numbers_more}
 use Rattle.readers.proofs.row_len.Goals as goal
 
 pub returns : goal.returns
@@ -12,5 +12,5 @@ returns c =
     let row = c.args.row.now in
     c.unwrap_or.ensures
     ∙ sym
-    (index_from_first (λ l. length (numbers l)) (λ (b : ℕ). b ≡ blank_byte) (λ b. b ≢ blank_byte) numbers-none numbers-hit numbers-miss row _
+    (index_from_first (λ l. length (numbers l)) (λ (b : ℕ). b ≡ blank_byte) (λ b. b ≢ blank_byte) numbers-none numbers-end numbers_more row _
     (IsFirst-from_position _ _ _ (λ (b : ℕ). b ≡ blank_byte) (λ b. b ≢ blank_byte) c.position.ensures.ran (YieldsList-from_slice row cc) (λ x q k. search (rules, tests)) (λ x q k. search (rules, tests))))

@@ -1,5 +1,5 @@
 // The rounds of a test: in a round each fact raises the time of its head, going by the times before the round. They end with the first that raises no event.
-ghost use Rattle.std.specs.Prelude.{◌≡◌, ℕ, ◌+◌, ◌-◌, ◌≤◌, length};
+ghost use Rattle.std.specs.Prelude.{◌≡◌, ℕ, ◌+◌, ◌-◌, ◌≤◌, max, length};
 ghost use Rattle.meaning.specs.Limits.{most_events};
 ghost use Rattle.problem.specs.Arcs.{at, net};
 ghost use Rattle.facts.specs.Tests.{farthest, Within};
@@ -9,6 +9,14 @@ use problem::{BIAS, EVENTS, Edge};
 
 // A row for the start and one for each round.
 pub const ROWS: usize = EVENTS + 1;
+
+// The later of two bounds on a time: old, and u - b where that is above it.
+// Not old.max(u.saturating_sub(b)): that becomes a jump, which nothing foretells, and the search took half as long again.
+fn raised(old: u32, u: u32, b: u32) -> u32
+    ensures { result ≡ max old (u - b) }
+{
+    if b <= u { old.max(u - b) } else { old }
+}
 
 // One round of all facts, or of all facts turned round.
 pub fn round_of<const TURNED: bool>(
@@ -29,7 +37,7 @@ pub fn round_of<const TURNED: bool>(
         };
         let x = usize::from(x);
         let y = usize::from(y);
-        nxt[x] = nxt[x].max((cur[y] + BIAS).saturating_sub(arc.b));
+        nxt[x] = raised(nxt[x], cur[y] + BIAS, arc.b);
     }
     nxt
 }

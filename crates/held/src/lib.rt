@@ -45,25 +45,25 @@ impl Facts {
     }
 
     // The test of the facts.
-    pub fn tested(self, p: Problem) -> Option<[u32; EVENTS]>
-        requires { Ready p self }
-        ensures { Tests (facts_in p self) p.n result }
+    pub fn tested(self, p: &Problem) -> Option<[u32; EVENTS]>
+        requires { Ready p.now self }
+        ensures { Tests (facts_in p.now self) p.now.n result }
     {
         facts::test(&p.arcs, &self.buffer[self.at..], p.n)
     }
 
     // The test of the facts with arc j before them.
-    pub fn tested_with(self, p: Problem, j: u8) -> Option<[u32; EVENTS]>
-        requires { Ready p self × Arc (arcs p) p.n j }
-        ensures { Tests (arc (arcs p) j ∷ facts_in p self) p.n result }
+    pub fn tested_with(self, p: &Problem, j: u8) -> Option<[u32; EVENTS]>
+        requires { Ready p.now self × Arc (arcs p.now) p.now.n j }
+        ensures { Tests (arc (arcs p.now) j ∷ facts_in p.now self) p.now.n result }
     {
         facts::test_with(&p.arcs, self.buffer, self.at, j, p.n)
     }
 
     // The shortest reason of facts that have no timetable, as a row.
-    pub fn reason(self, p: Problem) -> [u8; ROW]
-        requires { Within (arcs p) (held self) p.n × (sound (facts_in p self) ≡ false) }
-        ensures { result ≡ row_of row_bytes (cycle (facts_in p self)) }
+    pub fn reason(self, p: &Problem) -> [u8; ROW]
+        requires { Within (arcs p.now) (held self) p.now.n × (sound (facts_in p.now self) ≡ false) }
+        ensures { result ≡ row_of row_bytes (cycle (facts_in p.now self)) }
     {
         shortest::reason(&p.arcs, &self.buffer[self.at..], p.n)
     }

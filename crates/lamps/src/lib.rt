@@ -18,8 +18,8 @@ use problem::{CLAUSES, Problem};
 const NO_LAMP: u32 = 64;
 
 // All alternatives of one-alternative clauses, in order.
-fn forced_facts(p: Problem) -> Facts
-    ensures { Ready p result × (facts_in p result ≡ forced (clauses_in p)) }
+fn forced_facts(p: &Problem) -> Facts
+    ensures { Ready p.now result × (facts_in p.now result ≡ forced (clauses_in p.now)) }
 {
     let mut f = Facts::none();
     for k in (0..p.m).rev() {
@@ -32,9 +32,9 @@ fn forced_facts(p: Problem) -> Facts
 }
 
 // The lit lamps as a set: lamp j by bit j.
-fn lit_set(p: Problem, f: Facts) -> u64
-    requires { Ready p f × (facts_in p f ≡ forced (clauses_in p)) }
-    ensures { result ≡ bits (lamps_in p) }
+fn lit_set(p: &Problem, f: Facts) -> u64
+    requires { Ready p.now f × (facts_in p.now f ≡ forced (clauses_in p.now)) }
+    ensures { result ≡ bits (lamps_in p.now) }
 {
     let mut set = 0u64;
     for j in 0..p.starts[p.m] {
@@ -57,9 +57,9 @@ fn mask_of(from: u8, end: u8) -> u64
 }
 
 // How many lamps of each clause are lit, 0 past the last clause.
-fn counts_of(p: Problem, set: u64) -> [u32; CLAUSES]
-    requires { set ≡ bits (lamps_in p) }
-    ensures { result ≡ map ones (lit (clauses_in p)) ++ replicate (most_clauses - p.m) 0 }
+fn counts_of(p: &Problem, set: u64) -> [u32; CLAUSES]
+    requires { set ≡ bits (lamps_in p.now) }
+    ensures { result ≡ map ones (lit (clauses_in p.now)) ++ replicate (most_clauses - p.now.m) 0 }
 {
     let mut each = [0; CLAUSES];
     for k in 0..p.m {
@@ -70,8 +70,8 @@ fn counts_of(p: Problem, set: u64) -> [u32; CLAUSES]
 }
 
 // The panel of a checked problem.
-fn panel_of(p: Problem) -> Panel
-    ensures { result ≡ panel_of (lit (clauses_in p)) }
+fn panel_of(p: &Problem) -> Panel
+    ensures { result ≡ panel_of (lit (clauses_in p.now)) }
 {
     let lit = lit_set(p, forced_facts(p));
     Panel {
@@ -101,7 +101,7 @@ pub fn lamps(n: u32, triples: &[i32], counts: &[u32]) -> Panel
     ensures { result ≡ panel (given n triples.now counts.now) }
 {
     match problem::check(n, triples, counts) {
-        Ok(p) => panel_of(p),
+        Ok(p) => panel_of(&p),
         Err(refusal) => dark_panel(refusal),
     }
 }

@@ -25,11 +25,11 @@ module _ (p : Problem) (picks : List ℕ) (inside : Inside p picks p.m) (long : 
   pub selected-facts : facts_in p f ≡ chosen (clauses_in p) (take p.m picks)
   selected-facts = ap (map (arc (arcs p))) is ∙ chosen-facts p 0 p.m (take p.m picks) (omega arith) (stands p picks p.m inside long)
 
-  pub selected-ready : f.at + p.m ≡ places → length p.arcs ≡ 128 → Ready p f
-  selected-ready h n =
+  pub selected-ready : f.at + p.m ≡ places → Ready p f
+  selected-ready h =
       record {
         free = omega (arith, p.laid.few);
-        within = record { known = subst (Known (arcs p) p.n) (sym is) (chosen-known p 0 p.m (take p.m picks) (omega arith) (stands p picks p.m inside long)); few = omega (arith, length-map p.arcs (λ (e : Edge). e.x)) };
+        within = record { known = subst (Known (arcs p) p.n) (sym is) (chosen-known p 0 p.m (take p.m picks) (omega arith) (stands p picks p.m inside long)); few = omega (arith, p.laid.full, length-map p.arcs (λ (e : Edge). e.x)) };
       }
 
   module _ (sounds : sound (chosen (clauses_in p) (take p.m picks)) ≡ true) where

@@ -55,9 +55,9 @@ fn admitted(
 }
 
 // The latest timetable of the selection of the picks, in place of the first n times.
-fn put_day(p: Problem, picks: [u8; CLAUSES], timetable: &mut [i32])
-    requires { Inside p picks p.m × (p.n ≤ length timetable.old) × (sound (chosen (clauses_in p) (take p.m picks)) ≡ true) }
-    ensures { timetable.new ≡ latest_of p.n (chosen (clauses_in p) (take p.m picks)) ++ drop p.n timetable.old }
+fn put_day(p: &Problem, picks: [u8; CLAUSES], timetable: &mut [i32])
+    requires { Inside p.now picks p.now.m × (p.now.n ≤ length timetable.old) × (sound (chosen (clauses_in p.now) (take p.now.m picks)) ≡ true) }
+    ensures { timetable.new ≡ latest_of p.now.n (chosen (clauses_in p.now) (take p.now.m picks)) ++ drop p.now.n timetable.old }
 {
     let f = search::chosen_of(p, picks);
     if let Some(times) = f.tested(p) {
@@ -66,9 +66,9 @@ fn put_day(p: Problem, picks: [u8; CLAUSES], timetable: &mut [i32])
 }
 
 // A search that found the plan at the place s.
-fn found(p: Problem, s: Place, timetable: &mut [i32], picks: &mut [u8]) -> Answer
-    requires { Inside p s.standing.picks s.standing.k × (s.standing.k ≡ p.m) × (p.n ≤ length timetable.old) × (p.m ≤ length picks.old) × (sound (chosen (clauses_in p) (positions s)) ≡ true) }
-    ensures { Plans p s result timetable.old timetable.new picks.old picks.new }
+fn found(p: &Problem, s: Place, timetable: &mut [i32], picks: &mut [u8]) -> Answer
+    requires { Inside p.now s.standing.picks s.standing.k × (s.standing.k ≡ p.now.m) × (p.now.n ≤ length timetable.old) × (p.now.m ≤ length picks.old) × (sound (chosen (clauses_in p.now) (positions s)) ≡ true) }
+    ensures { Plans p.now s result timetable.old timetable.new picks.old picks.new }
 {
     let standing = s.standing;
     let k = standing.k;
@@ -81,9 +81,9 @@ fn found(p: Problem, s: Place, timetable: &mut [i32], picks: &mut [u8]) -> Answe
 }
 
 // A search that ended without a plan at the place s: listed where the rows fit, and else no list.
-fn closed(p: Problem, s: Place, reasons: &mut [u8]) -> Answer
+fn closed(p: &Problem, s: Place, reasons: &mut [u8]) -> Answer
     requires { s.rows ≤ most_rows }
-    ensures { Closes p s reasons.old result reasons.new }
+    ensures { Closes p.now s reasons.old result reasons.new }
 {
     let visits = s.visits;
     let before = search::under(p, 0);
@@ -104,9 +104,9 @@ fn closed(p: Problem, s: Place, reasons: &mut [u8]) -> Answer
 }
 
 // A search that stopped before the place s.
-fn stopped(p: Problem, s: Place) -> Answer
-    requires { Inside p s.standing.picks s.standing.k }
-    ensures { result ≡ Stopped s.visits (rank (clauses_in p) (positions s)) }
+fn stopped(p: &Problem, s: Place) -> Answer
+    requires { Inside p.now s.standing.picks s.standing.k }
+    ensures { result ≡ Stopped s.visits (rank (clauses_in p.now) (positions s)) }
 {
     Answer::Stopped {
         visits: s.visits,
@@ -117,14 +117,14 @@ fn stopped(p: Problem, s: Place) -> Answer
 // The search of an accepted problem, over lent memory that is cleared, and what it leaves there. The three slices stay apart, as `plan` is
 // lent them: each end of a search writes others of them.
 fn planned(
-    p: Problem,
+    p: &Problem,
     allowance: u64,
     timetable: &mut [i32],
     picks: &mut [u8],
     reasons: &mut [u8],
 ) -> Answer
-    requires { (allowance ≤ most_allowance) × Cleared timetable.old picks.old reasons.old × (p.n ≤ length timetable.old) × (p.m ≤ length picks.old) }
-    ensures { Answers p allowance (length timetable.old) (length picks.old) (length reasons.old) result timetable.new picks.new reasons.new }
+    requires { (allowance ≤ most_allowance) × Cleared timetable.old picks.old reasons.old × (p.now.n ≤ length timetable.old) × (p.now.m ≤ length picks.old) }
+    ensures { Answers p.now allowance (length timetable.old) (length picks.old) (length reasons.old) result timetable.new picks.new reasons.new }
 {
     match search::run(p, allowance, reasons) {
         End::Closed(s) => closed(p, s, reasons),
@@ -156,7 +156,7 @@ pub fn plan(
     picks.fill(BLANK);
     reasons.fill(BLANK);
     match admitted(n, triples, counts, allowance, timetable.len(), picks.len()) {
-        Ok(p) => planned(p, u64::from(allowance), timetable, picks, reasons),
+        Ok(p) => planned(&p, u64::from(allowance), timetable, picks, reasons),
         Err(refusal) => Answer::Refused {
             number: u8::from(refusal),
         },

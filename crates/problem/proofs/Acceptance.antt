@@ -187,6 +187,7 @@ module _ (l : Lent) (p : Passes l) where
         rises = start-rises;
         ends = λ k h. omega (arith, start_under k h, starts-end);
         last = omega (arith, starts-end, all);
+        full = edges-length made few;
         alternative = λ j h. let i = inside j h in stands-within g l.n j (alternative j) (stands j i) (alternative-x j i) (alternative-y j i) (within _ j (omega (arith, all))) (within _ j (omega (arith, all))) (within _ j (omega (arith, all)));
         turned = λ j h. let i = inside j h in stands-within g l.n (opposite_from + j) (opposite (alternative j)) (stands-turned j i) (alternative-y j i) (alternative-x j i) (within _ (opposite_from + j) (omega (arith, all))) (within _ (opposite_from + j) (omega (arith, all))) (within _ (opposite_from + j) (omega (arith, all)));
         opposites = λ j h. let i = inside j h in ap opposite (sym (stands-is g j (alternative j) (stands j i))) ∙ stands-is g (opposite_from + j) (opposite (alternative j)) (stands-turned j i);

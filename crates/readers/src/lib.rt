@@ -82,9 +82,9 @@ fn mark_of(row: &[u8; ROW]) -> Option<Mark>
 }
 
 // Whether the numbers, each a fact, are the arcs of a closed walk whose bounds sum below 0.
-fn is_cycle(p: Problem, facts: &[u8], walked: &[u8]) -> bool
-    requires { Known (arcs p) p.n facts.now × (length walked.now ≤ row_bytes) }
-    ensures { result ≡ loops (map (arc (arcs p)) facts.now) walked.now }
+fn is_cycle(p: &Problem, facts: &[u8], walked: &[u8]) -> bool
+    requires { Known (arcs p.now) p.now.n facts.now × (length walked.now ≤ row_bytes) }
+    ensures { result ≡ loops (map (arc (arcs p.now)) facts.now) walked.now }
 {
     let Some(first) = walked.first() else {
         return false;
@@ -110,9 +110,9 @@ fn is_cycle(p: Problem, facts: &[u8], walked: &[u8]) -> bool
 }
 
 // Whether a row is a cycle row over the facts.
-fn is_cycle_row(p: Problem, facts: Facts, row: &[u8; ROW]) -> bool
-    requires { Known (arcs p) p.n (held facts) }
-    ensures { result ≡ cycle_over (facts_from p facts) row.now }
+fn is_cycle_row(p: &Problem, facts: Facts, row: &[u8; ROW]) -> bool
+    requires { Known (arcs p.now) p.now.n (held facts) }
+    ensures { result ≡ cycle_over (facts_from p.now facts) row.now }
 {
     let (walked, filling) = row.split_at(row_len(row));
     is_blank(filling) && is_cycle(p, facts.numbers(), walked)
@@ -120,14 +120,14 @@ fn is_cycle_row(p: Problem, facts: Facts, row: &[u8; ROW]) -> bool
 
 // After 200 + d: a cycle row for each alternative of d, a later clause, over the facts and that alternative.
 fn dead<'a>(
-    p: Problem,
+    p: &Problem,
     rows: &'a [[u8; ROW]],
     k: usize,
     facts: Facts,
     d: usize,
 ) -> Option<&'a [[u8; ROW]]>
-    requires { Stands p k facts }
-    ensures { Answers (dead_rows (clauses_from p k (p.m - k)) k d (facts_from p facts) rows.now) result }
+    requires { Stands p.now k facts }
+    ensures { Answers (dead_rows (clauses_from p.now k (p.now.m - k)) k d (facts_from p.now facts) rows.now) result }
 {
     if !(k..p.m).contains(&d) {
         return None;
@@ -144,9 +144,9 @@ fn dead<'a>(
 }
 
 // The rows after the reading of the standing with k clauses chosen, from the first row on.
-fn reading<'a>(p: Problem, rows: &'a [[u8; ROW]], k: usize, facts: Facts) -> Option<&'a [[u8; ROW]]>
-    requires { Stands p k facts }
-    ensures { Answers (read row_bytes (clauses_from p k (p.m - k)) k (facts_from p facts) rows.now) result }
+fn reading<'a>(p: &Problem, rows: &'a [[u8; ROW]], k: usize, facts: Facts) -> Option<&'a [[u8; ROW]]>
+    requires { Stands p.now k facts }
+    ensures { Answers (read row_bytes (clauses_from p.now k (p.now.m - k)) k (facts_from p.now facts) rows.now) result }
 {
     let (row, mut rest) = rows.split_first()?;
     match mark_of(row)? {
@@ -167,8 +167,8 @@ fn reading<'a>(p: Problem, rows: &'a [[u8; ROW]], k: usize, facts: Facts) -> Opt
 }
 
 // Whether the front of the list is one whole reading and all bytes after it are 255.
-fn is_reading(p: Problem, list: &[u8]) -> bool
-    ensures { result ≡ is_reading row_bytes (clauses_in p) list.now }
+fn is_reading(p: &Problem, list: &[u8]) -> bool
+    ensures { result ≡ is_reading row_bytes (clauses_in p.now) list.now }
 {
     let (rows, tail) = list.as_chunks::<ROW>();
     match reading(p, rows, 0, Facts::none()) {
@@ -187,26 +187,26 @@ fn at_most(tx: i32, ty: i32, b: u32) -> bool
 }
 
 // Whether the timetable satisfies alternative j.
-fn is_satisfied(p: Problem, times: &[i32], j: usize) -> bool
-    requires { Arc (arcs p) p.n j × (p.n ≤ length times.now) }
-    ensures { result ≡ satisfied (times_of times.now) (arc (arcs p) j) }
+fn is_satisfied(p: &Problem, times: &[i32], j: usize) -> bool
+    requires { Arc (arcs p.now) p.now.n j × (p.now.n ≤ length times.now) }
+    ensures { result ≡ satisfied (times_of times.now) (arc (arcs p.now) j) }
 {
     let arc = p.arcs[j];
     at_most(times[usize::from(arc.x)], times[usize::from(arc.y)], arc.b)
 }
 
 // Whether the timetable satisfies an alternative of clause k.
-fn is_some_satisfied(p: Problem, times: &[i32], k: usize) -> bool
-    requires { (p.n ≤ length times.now) × (k < p.m) }
-    ensures { result ≡ some (times_of times.now) (clause_of p k) }
+fn is_some_satisfied(p: &Problem, times: &[i32], k: usize) -> bool
+    requires { (p.now.n ≤ length times.now) × (k < p.now.m) }
+    ensures { result ≡ some (times_of times.now) (clause_of p.now k) }
 {
     (p.starts[k]..p.starts[k + 1]).any(|j| is_satisfied(p, times, j as usize))
 }
 
 // Whether the first n times keep the problem.
-fn is_kept(p: Problem, times: &[i32]) -> bool
-    requires { p.n ≤ length times.now }
-    ensures { result ≡ keeps (times_of times.now) (clauses_in p) }
+fn is_kept(p: &Problem, times: &[i32]) -> bool
+    requires { p.now.n ≤ length times.now }
+    ensures { result ≡ keeps (times_of times.now) (clauses_in p.now) }
 {
     (0..p.m).all(|k| is_some_satisfied(p, times, k))
 }
@@ -229,7 +229,7 @@ fn is_read(n: u32, triples: &[i32], counts: &[u32], list: &[u8]) -> Result<bool,
     ensures { said result ≡ reasons_verdict (given n triples.now counts.now) list.now }
 {
     let p = problem::check(n, triples, counts)?;
-    Ok(is_reading(p, list))
+    Ok(is_reading(&p, list))
 }
 
 // Whether the first n times keep the problem that is lent.
@@ -240,7 +240,7 @@ fn is_day(n: u32, triples: &[i32], counts: &[u32], timetable: &[i32]) -> Result<
     if timetable.len() < p.n {
         return Err(Refusal::Lent);
     }
-    Ok(is_kept(p, timetable))
+    Ok(is_kept(&p, timetable))
 }
 
 // Whether the list is one whole reading of the problem that is lent, then 255s; or the number that refuses the problem.

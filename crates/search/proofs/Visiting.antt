@@ -77,11 +77,11 @@ module _ (p : Problem) (s : Place) (long : length s.standing.picks ≡ 32) (insi
   pub own-facts : facts_in p f ≡ facts (clauses_in p) (positions s) []
   own-facts = ap (map (arc (arcs p))) is ∙ standing-facts p 0 p.m (positions s) [] (omega arith) (stands p s.standing.picks s.standing.k inside long)
 
-  pub ready : places ≤ f.at + at p.starts s.standing.k → length p.arcs ≡ 128 → Ready p f
-  ready h n =
+  pub ready : places ≤ f.at + at p.starts s.standing.k → Ready p f
+  ready h =
       record {
         free = omega (arith, p.laid.ends s.standing.k inside.few, p.laid.last);
-        within = record { known = subst (Known (arcs p) p.n) (sym is) (standing-known p 0 p.m (positions s) [] (omega arith) (stands p s.standing.picks s.standing.k inside long) (known-none (arcs p) p.n)); few = omega (arith, length-map p.arcs (λ (e : Edge). e.x)) };
+        within = record { known = subst (Known (arcs p) p.n) (sym is) (standing-known p 0 p.m (positions s) [] (omega arith) (stands p s.standing.picks s.standing.k inside long) (known-none (arcs p) p.n)); few = omega (arith, p.laid.full, length-map p.arcs (λ (e : Edge). e.x)) };
       }
 
 -- ---- a step

@@ -49,9 +49,9 @@ const ONWARD: u8 = 240;
 const DEAD: u8 = 200;
 
 // The place after the standing of s is closed.
-fn leave(p: Problem, s: Place) -> ControlFlow<End, Place>
-    requires { Inside p s.standing.picks s.standing.k }
-    ensures { Leaves p s result }
+fn leave(p: &Problem, s: Place) -> ControlFlow<End, Place>
+    requires { Inside p.now s.standing.picks s.standing.k }
+    ensures { Leaves p.now s result }
 {
     match advance(p, s.standing) {
         Some(standing) => ControlFlow::Continue(Place { standing, ..s }),
@@ -60,9 +60,9 @@ fn leave(p: Problem, s: Place) -> ControlFlow<End, Place>
 }
 
 // A visit of a sound standing short of the last clause: closed by its lowest dead clause, or left for position 0 of the next clause.
-fn visit(p: Problem, f: Facts, s: Place, reasons: &mut [u8]) -> ControlFlow<End, Place>
-    requires { Ready p f × Inside p s.standing.picks s.standing.k × (s.standing.k < p.m) × (s.rows + 5 ≤ most_rows) × (s.visits ≤ most_allowance) }
-    ensures { Visits p f s reasons.old result reasons.new }
+fn visit(p: &Problem, f: Facts, s: Place, reasons: &mut [u8]) -> ControlFlow<End, Place>
+    requires { Ready p.now f × Inside p.now s.standing.picks s.standing.k × (s.standing.k < p.now.m) × (s.rows + 5 ≤ most_rows) × (s.visits ≤ most_allowance) }
+    ensures { Visits p.now f s reasons.old result reasons.new }
 {
     let visits = s.visits + 1;
     if let Some(d) = first_dead(p, f, s.standing.k) {
@@ -83,9 +83,9 @@ fn visit(p: Problem, f: Facts, s: Place, reasons: &mut [u8]) -> ControlFlow<End,
 }
 
 // One step of the search: the standing of s is closed, visited, found whole, or stopped at.
-pub fn step(p: Problem, allowance: u64, s: Place, reasons: &mut [u8]) -> ControlFlow<End, Place>
-    requires { Fine p allowance s × (allowance ≤ most_allowance) }
-    ensures { Steps p allowance s reasons.old result reasons.new }
+pub fn step(p: &Problem, allowance: u64, s: Place, reasons: &mut [u8]) -> ControlFlow<End, Place>
+    requires { Fine p.now allowance s × (allowance ≤ most_allowance) }
+    ensures { Steps p.now allowance s reasons.old result reasons.new }
 {
     let f = facts_of(p, s.standing);
     if f.tested(p).is_none() {
@@ -104,9 +104,9 @@ pub fn step(p: Problem, allowance: u64, s: Place, reasons: &mut [u8]) -> Control
 }
 
 // The whole search: steps from the start until it ends.
-pub fn run(p: Problem, allowance: u64, reasons: &mut [u8]) -> End
+pub fn run(p: &Problem, allowance: u64, reasons: &mut [u8]) -> End
     requires { (allowance ≤ most_allowance) × (reasons.old ≡ replicate (length reasons.old) blank_byte) }
-    ensures { Runs p allowance reasons.old result reasons.new }
+    ensures { Runs p.now allowance reasons.old result reasons.new }
 {
     let mut s = Place {
         standing: Standing {

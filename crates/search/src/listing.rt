@@ -38,9 +38,9 @@ pub fn put_row(reasons: &mut [u8], rows: usize, row: [u8; ROW])
 }
 
 // Row number `rows` of the list, where there is room for it: the shortest reason of the facts f, which is worked out only there.
-pub fn put_reason(p: Problem, f: Facts, reasons: &mut [u8], rows: usize)
-    requires { Within (arcs p) (held f) p.n × (sound (facts_in p f) ≡ false) × (rows ≤ most_rows) }
-    ensures { reasons.new ≡ put_row reasons.old rows (row_of row_bytes (cycle (facts_in p f))) }
+pub fn put_reason(p: &Problem, f: Facts, reasons: &mut [u8], rows: usize)
+    requires { Within (arcs p.now) (held f) p.now.n × (sound (facts_in p.now f) ≡ false) × (rows ≤ most_rows) }
+    ensures { reasons.new ≡ put_row reasons.old rows (row_of row_bytes (cycle (facts_in p.now f))) }
 {
     if rows * ROW + ROW <= reasons.len() {
         put_row(reasons, rows, f.reason(p));
@@ -48,9 +48,9 @@ pub fn put_reason(p: Problem, f: Facts, reasons: &mut [u8], rows: usize)
 }
 
 // The cycle rows of the dead clause d, from row number `rows` on; the number of the row after them.
-pub fn put_cycles(p: Problem, f: Facts, d: usize, reasons: &mut [u8], rows: usize) -> usize
-    requires { Ready p f × (d < p.m) × (dead sound (facts_in p f) (clause_of p d) ≡ true) × (rows + 4 ≤ most_rows) }
-    ensures { Keeps reasons.old reasons.new rows (map (λ a. cycle (a ∷ facts_in p f)) (clause_of p d)) × (result ≡ rows + size_of p d) }
+pub fn put_cycles(p: &Problem, f: Facts, d: usize, reasons: &mut [u8], rows: usize) -> usize
+    requires { Ready p.now f × (d < p.now.m) × (dead sound (facts_in p.now f) (clause_of p.now d) ≡ true) × (rows + 4 ≤ most_rows) }
+    ensures { Keeps reasons.old reasons.new rows (map (λ a. cycle (a ∷ facts_in p.now f)) (clause_of p.now d)) × (result ≡ rows + size_of p.now d) }
 {
     let first = p.starts[d];
     let end = p.starts[d + 1];

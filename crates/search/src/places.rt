@@ -9,9 +9,9 @@ use crate::Standing;
 use problem::Problem;
 
 // The standing after s and all under it, if there is one.
-pub fn advance(p: Problem, s: Standing) -> Option<Standing>
-    requires { Inside p s.picks s.k }
-    ensures { Advances p s result }
+pub fn advance(p: &Problem, s: Standing) -> Option<Standing>
+    requires { Inside p.now s.picks s.k }
+    ensures { Advances p.now s result }
 {
     for i in (0..s.k).rev() {
         let next = s.picks[i] + 1;
@@ -25,17 +25,17 @@ pub fn advance(p: Problem, s: Standing) -> Option<Standing>
 }
 
 // How many alternatives clause k has.
-fn size(p: Problem, k: usize) -> u64
-    requires { k < p.m }
-    ensures { result ≡ size_of p k }
+fn size(p: &Problem, k: usize) -> u64
+    requires { k < p.now.m }
+    ensures { result ≡ size_of p.now k }
 {
     u64::from(p.starts[k + 1] - p.starts[k])
 }
 
 // How many selections the clauses from k on have.
-pub fn under(p: Problem, k: usize) -> u64
-    requires { k ≤ p.m }
-    ensures { result ≡ product (clauses_from p k (p.m - k)) }
+pub fn under(p: &Problem, k: usize) -> u64
+    requires { k ≤ p.now.m }
+    ensures { result ≡ product (clauses_from p.now k (p.now.m - k)) }
 {
     let mut all = 1u64;
     for i in (k..p.m).rev() {
@@ -45,9 +45,9 @@ pub fn under(p: Problem, k: usize) -> u64
 }
 
 // The rank of a standing.
-pub fn rank_of(p: Problem, s: Standing) -> u64
-    requires { Inside p s.picks s.k }
-    ensures { result ≡ rank (clauses_in p) (take s.k s.picks) }
+pub fn rank_of(p: &Problem, s: Standing) -> u64
+    requires { Inside p.now s.picks s.k }
+    ensures { result ≡ rank (clauses_in p.now) (take s.k s.picks) }
 {
     let mut all = under(p, s.k);
     let mut before = 0u64;

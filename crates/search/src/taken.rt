@@ -16,9 +16,9 @@ use problem::{CLAUSES, Problem};
 const OPPOSITE_FROM: u8 = 64;
 
 // The facts of position `pick` of clause k, put before those of f.
-fn taking(p: Problem, mut f: Facts, k: usize, pick: u8) -> Facts
-    requires { (k < p.m) × (pick < size_of p k) × (places ≤ f.at + at p.starts k) }
-    ensures { (held result ≡ takes (at p.starts k) pick (held f)) × (result.at + pick + 1 ≡ f.at) }
+fn taking(p: &Problem, mut f: Facts, k: usize, pick: u8) -> Facts
+    requires { (k < p.now.m) × (pick < size_of p.now k) × (places ≤ f.at + at p.now.starts k) }
+    ensures { (held result ≡ takes (at p.now.starts k) pick (held f)) × (result.at + pick + 1 ≡ f.at) }
 {
     let first = p.starts[k];
     let last = first + pick;
@@ -29,9 +29,9 @@ fn taking(p: Problem, mut f: Facts, k: usize, pick: u8) -> Facts
 }
 
 // The facts of a standing.
-pub fn facts_of(p: Problem, s: Standing) -> Facts
-    requires { Inside p s.picks s.k }
-    ensures { (held result ≡ standing_facts p.starts 0 (take s.k s.picks) []) × (places ≤ result.at + at p.starts s.k) }
+pub fn facts_of(p: &Problem, s: Standing) -> Facts
+    requires { Inside p.now s.picks s.k }
+    ensures { (held result ≡ standing_facts p.now.starts 0 (take s.k s.picks) []) × (places ≤ result.at + at p.now.starts s.k) }
 {
     let mut f = Facts::none();
     for c in 0..s.k {
@@ -41,9 +41,9 @@ pub fn facts_of(p: Problem, s: Standing) -> Facts
 }
 
 // The alternatives of the selection of the picks, as facts.
-pub fn chosen_of(p: Problem, picks: [u8; CLAUSES]) -> Facts
-    requires { Inside p picks p.m }
-    ensures { (held result ≡ chosen_facts p.starts 0 (take p.m picks)) × (result.at + p.m ≡ places) }
+pub fn chosen_of(p: &Problem, picks: [u8; CLAUSES]) -> Facts
+    requires { Inside p.now picks p.now.m }
+    ensures { (held result ≡ chosen_facts p.now.starts 0 (take p.now.m picks)) × (result.at + p.now.m ≡ places) }
 {
     let mut f = Facts::none();
     for i in (0..p.m).rev() {
@@ -53,9 +53,9 @@ pub fn chosen_of(p: Problem, picks: [u8; CLAUSES]) -> Facts
 }
 
 // Whether clause d is dead: no alternative of it has a timetable together with the facts.
-fn is_dead(p: Problem, f: Facts, d: usize) -> bool
-    requires { Ready p f × (d < p.m) }
-    ensures { result ≡ dead sound (facts_in p f) (clause_of p d) }
+fn is_dead(p: &Problem, f: Facts, d: usize) -> bool
+    requires { Ready p.now f × (d < p.now.m) }
+    ensures { result ≡ dead sound (facts_in p.now f) (clause_of p.now d) }
 {
     let first = p.starts[d];
     let end = p.starts[d + 1];
@@ -68,9 +68,9 @@ fn is_dead(p: Problem, f: Facts, d: usize) -> bool
 }
 
 // The lowest dead clause from clause k on, if there is one.
-pub fn first_dead(p: Problem, f: Facts, k: usize) -> Option<usize>
-    requires { Ready p f × (k ≤ p.m) }
-    ensures { DeadFrom p f k result }
+pub fn first_dead(p: &Problem, f: Facts, k: usize) -> Option<usize>
+    requires { Ready p.now f × (k ≤ p.now.m) }
+    ensures { DeadFrom p.now f k result }
 {
     for d in k..p.m {
         if is_dead(p, f, d) {

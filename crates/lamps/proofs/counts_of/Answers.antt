@@ -20,7 +20,7 @@ use Rattle.lamps.proofs.counts_of.Goals as goal
 
 pub loop-k-preserved : goal.loop-k-preserved
 loop-k-preserved c =
-    let p = c.args.p in
+    let p = c.args.p.now in
     let k = c.loop-k.k in
     let l : k < p.m = omega arith in
     let count =
@@ -31,7 +31,7 @@ loop-k-preserved c =
 
 pub returns : goal.returns
 returns c =
-    let p = c.args.p in
+    let p = c.args.p.now in
     let whole : c.loop-k.k ≡ p.m = omega arith in
     c.loop-k.invariant
     ∙ ap₂ (λ (l m : List ℕ). l ++ m)

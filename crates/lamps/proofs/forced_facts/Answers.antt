@@ -16,7 +16,7 @@ use Rattle.lamps.proofs.forced_facts.Goals as goal
 
 pub loop-k-init : goal.loop-k-init
 loop-k-init c =
-    let p = c.args.p in
+    let p = c.args.p.now in
     let none = c.none-f.ensures.0 in
     record {
       is = ap (map (arc (arcs p))) none ∙ sym (forced-none p p.m);
@@ -25,11 +25,11 @@ loop-k-init c =
     }
 
 pub put-f-requires : goal.put-f-requires
-put-f-requires c = omega (arith, c.loop-k.invariant.room, c.args.p.laid.few)
+put-f-requires c = omega (arith, c.loop-k.invariant.room, c.args.p.now.laid.few)
 
 pub loop-k-preserved-then-p-k-eq1 : goal.loop-k-preserved-then-p-k-eq1
 loop-k-preserved-then-p-k-eq1 c =
-    let p = c.args.p in
+    let p = c.args.p.now in
     let k = c.loop-k.k in
     let i = c.loop-k.invariant in
     let some : 0 < k = omega arith in
@@ -47,7 +47,7 @@ pub loop-k-preserved : goal.loop-k-preserved
 loop-k-preserved c =
     let k = c.loop-k.k in
     let i = c.loop-k.invariant in
-    let p = c.args.p in
+    let p = c.args.p.now in
     let some : 0 < k = omega arith in
     let other : at p.starts (k - 1 + 1) - at p.starts (k - 1) ≡ 1 → ⊥ = λ one. omega arith in
     record { is = i.is ∙ forced-passed p k some (omega arith) other; known = i.known; room = omega (arith, i.room) }
@@ -55,11 +55,11 @@ loop-k-preserved c =
 pub returns : goal.returns
 returns c =
     let i = c.loop-k.invariant in
-    let p = c.args.p in
-    let arcs-few : length p.arcs ≡ 2 * most_alternatives = search rules in (
+    let p = c.args.p.now in
+    (
       record {
         free = omega (arith, p.laid.few, i.room);
-        within = record { known = i.known; few = omega (arith, length-map p.arcs (λ (e : Edge). e.x)) };
+        within = record { known = i.known; few = omega (arith, p.laid.full, length-map p.arcs (λ (e : Edge). e.x)) };
       },
       i.is ∙ forced-all p c.loop-k.k (omega arith),
     )

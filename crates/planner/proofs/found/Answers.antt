@@ -14,6 +14,6 @@ returns c =
     let s = c.args.s.standing in
     record {
       says = ap (Plan c.args.s.visits) c.rank_of.ensures;
-      day = c.put_day.ensures ∙ ap (λ (d : ℕ). latest_of c.args.p.n (chosen (clauses_in c.args.p) (take d s.picks)) ++ drop c.args.p.n c.args.timetable.now) (sym c.requires.1);
+      day = c.put_day.ensures ∙ ap (λ (d : ℕ). latest_of c.args.p.now.n (chosen (clauses_in c.args.p.now) (take d s.picks)) ++ drop c.args.p.now.n c.args.timetable.now) (sym c.requires.1);
       choice = ap₂ (λ (l : List ℕ) (d : ℕ). l ++ drop d c.args.picks.now) c.copy_from_slice.ensures.after c.requires.1;
     }

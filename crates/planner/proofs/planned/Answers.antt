@@ -4,24 +4,24 @@ use Rattle.planner.proofs.Turning.{plan-sound, none-few, answers-closed, answers
 use Rattle.planner.proofs.planned.Goals as goal
 
 pub closed-requires : goal.closed-requires
-closed-requires c = none-few c.args.p c.args.allowance c.in-Closed.s c.run.new.reasons c.requires.0 c.in-Closed.ensures.ends
+closed-requires c = none-few c.args.p.now c.args.allowance c.in-Closed.s c.run.new.reasons c.requires.0 c.in-Closed.ensures.ends
 
 pub found-requires : goal.found-requires
 found-requires c =
     let h = c.in-Plan.ensures.ends in
-    (h.inside, h.whole, c.requires.2, c.requires.3, plan-sound c.args.p c.args.allowance c.in-Plan.s h)
+    (h.inside, h.whole, c.requires.2, c.requires.3, plan-sound c.args.p.now c.args.allowance c.in-Plan.s h)
 
 pub returns-in-Closed : goal.returns-in-Closed
 returns-in-Closed c =
     let e = c.in-Closed.ensures in
-    answers-closed c.args.p c.args.allowance c.in-Closed.s _ _ _ c.requires.1 _ _ _ e.sized e.ends c.closed.ensures
+    answers-closed c.args.p.now c.args.allowance c.in-Closed.s _ _ _ c.requires.1 _ _ _ e.sized e.ends c.closed.ensures
 
 pub returns-in-Plan : goal.returns-in-Plan
 returns-in-Plan c =
     let e = c.in-Plan.ensures in
-    answers-found c.args.p c.args.allowance c.in-Plan.s _ _ _ c.requires.1 _ _ _ _ _ (search rules) e.sized (c.fill.ensures.after (λ y e. e)) e.ends c.found.ensures
+    answers-found c.args.p.now c.args.allowance c.in-Plan.s _ _ _ c.requires.1 _ _ _ _ _ (search rules) e.sized (c.fill.ensures.after (λ y e. e)) e.ends c.found.ensures
 
 pub returns-in-Stop : goal.returns-in-Stop
 returns-in-Stop c =
     let e = c.in-Stop.ensures in
-    answers-stopped c.args.p c.args.allowance c.in-Stop.s _ _ _ c.requires.1 _ _ _ e.sized (c.fill-in-Stop.ensures.after (λ y e. e)) c.stopped.ensures e.ends
+    answers-stopped c.args.p.now c.args.allowance c.in-Stop.s _ _ _ c.requires.1 _ _ _ e.sized (c.fill-in-Stop.ensures.after (λ y e. e)) c.stopped.ensures e.ends

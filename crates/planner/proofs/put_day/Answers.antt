@@ -12,11 +12,11 @@ use Rattle.planner.proofs.put_day.Goals as goal
 
 pub tested-requires : goal.tested-requires
 tested-requires c =
-    selected-ready c.args.p c.args.picks c.requires.0 (search rules) c.chosen_of-f.result c.chosen_of-f.ensures.0 c.chosen_of-f.ensures.1 (search rules)
+    selected-ready c.args.p.now c.args.picks c.requires.0 (search rules) c.chosen_of-f.result c.chosen_of-f.ensures.0 c.chosen_of-f.ensures.1
 
 pub returns-in-Some : goal.returns-in-Some
 returns-in-Some c =
-    let p = c.args.p in
+    let p = c.args.p.now in
     let times = c.in-Some.times in
     let long : length times ≡ 24 = search rules in
     let n : length (take p.n times) ≡ p.n = length-take-le p.n times (omega (arith, p.laid.most)) in
@@ -26,4 +26,4 @@ returns-in-Some c =
 
 pub returns-in_default : goal.returns-in_default
 returns-in_default c =
-    absurd (selected-found c.args.p c.args.picks c.requires.0 (search rules) c.chosen_of-f.result c.chosen_of-f.ensures.0 c.requires.2 c.in_default.ensures)
+    absurd (selected-found c.args.p.now c.args.picks c.requires.0 (search rules) c.chosen_of-f.result c.chosen_of-f.ensures.0 c.requires.2 c.in_default.ensures)

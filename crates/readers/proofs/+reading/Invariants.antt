@@ -8,7 +8,7 @@ use Rattle.readers.proofs.Turns.{Passing}
 use Rattle.readers.proofs.+reading.Given as goal
 
 abbrev pub decreases-reading : goal.decreases-reading
-decreases-reading l = l.p.m - l.k
+decreases-reading l = l.p.now.m - l.k
 
 abbrev pub invariant-loop-j : goal.invariant-loop-j
 invariant-loop-j l = Passing l.p l.k (read row_bytes (clauses_from l.p l.k (l.p.m - l.k)) l.k (facts_from l.p l.fn.facts) l.rows) l.j l.known l.rest

@@ -16,18 +16,18 @@ tested : (p : Problem) (j : ℕ) (f g : Facts) (row : List ℕ) (b t : Bool) →
 tested p j f g row b t e q r = ap (λ L. cycle_over (map (arc (arcs p)) L) row) (sym e) ∙ sym q ∙ r
 
 pub returns-then-not-contains : goal.returns-then-not-contains
-returns-then-not-contains c = dead-other c.args.p _ _ _ _ (λ l. grind (arith, nat_tests))
+returns-then-not-contains c = dead-other c.args.p.now _ _ _ _ (λ l. grind (arith, nat_tests))
 
 pub loop-j-init : goal.loop-j-init
 loop-j-init c =
     let y : suc c.args.d ≡ c.args.d + 1 = omega arith in
-    dead-later c.args.p _ _ _ _ (grind (arith, nat_tests)) (grind (arith, nat_tests)) ∙ rw y refl
+    dead-later c.args.p.now _ _ _ _ (grind (arith, nat_tests)) (grind (arith, nat_tests)) ∙ rw y refl
 
 pub is_cycle_row-requires : goal.is_cycle_row-requires
 is_cycle_row-requires c =
-    let later : c.args.d < c.args.p.m = grind (arith, nat_tests) in
-    let n : c.loop-j.j < at c.args.p.starts c.args.p.m = omega (arith, c.args.p.laid.ends (c.args.d + 1) (omega arith)) in
-    let d = decided-more c.args.p _ c.loop-j.j c.args.facts c.with.result c.requires.decided c.with.ensures.0 c.with.ensures.1 (c.args.p.laid.alternative _ n) in
+    let later : c.args.d < c.args.p.now.m = grind (arith, nat_tests) in
+    let n : c.loop-j.j < at c.args.p.now.starts c.args.p.now.m = omega (arith, c.args.p.now.laid.ends (c.args.d + 1) (omega arith)) in
+    let d = decided-more c.args.p.now _ c.loop-j.j c.args.facts c.with.result c.requires.decided c.with.ensures.0 c.with.ensures.1 (c.args.p.now.laid.alternative _ n) in
     d.known
 
 pub returns-in_err-row : goal.returns-in_err-row
@@ -35,11 +35,11 @@ returns-in_err-row c = rw c.from_residual.ensures (c.loop-j.invariant ∙ cycles
 
 pub returns-then-not-is_cycle_row : goal.returns-then-not-is_cycle_row
 returns-then-not-is_cycle_row c =
-    c.loop-j.invariant ∙ cycles-no _ _ _ _ _ c.loop-j-test.true _ _ c.in_ok-row.ensures.cases.0 (tested c.args.p c.loop-j.j c.args.facts c.with.result _ _ _ c.with.ensures.0 c.is_cycle_row.ensures c.if-not-is_cycle_row.true)
+    c.loop-j.invariant ∙ cycles-no _ _ _ _ _ c.loop-j-test.true _ _ c.in_ok-row.ensures.cases.0 (tested c.args.p.now c.loop-j.j c.args.facts c.with.result _ _ _ c.with.ensures.0 c.is_cycle_row.ensures c.if-not-is_cycle_row.true)
 
 pub loop-j-preserved : goal.loop-j-preserved
 loop-j-preserved c =
-    c.loop-j.invariant ∙ cycles-row _ _ _ _ _ c.loop-j-test.true _ _ c.in_ok-row.ensures.cases.0 (tested c.args.p c.loop-j.j c.args.facts c.with.result _ _ _ c.with.ensures.0 c.is_cycle_row.ensures c.if-not-is_cycle_row.false)
+    c.loop-j.invariant ∙ cycles-row _ _ _ _ _ c.loop-j-test.true _ _ c.in_ok-row.ensures.cases.0 (tested c.args.p.now c.loop-j.j c.args.facts c.with.result _ _ _ c.with.ensures.0 c.is_cycle_row.ensures c.if-not-is_cycle_row.false)
 
 pub returns : goal.returns
 returns c = c.loop-j.invariant ∙ cycles-end _ _ _ _ _ c.loop-j-test.false

@@ -11,7 +11,7 @@ use Rattle.readers.proofs.is_kept.Goals as goal
 
 pub returns : goal.returns
 returns c =
-    let p = c.args.p in
+    let p = c.args.p.now in
     let n : p.m - 0 ≡ p.m = omega arith in
     all_from_yields_List (λ k. some (times_of c.args.times.now) (clause_of p k)) _ _ _ c.all.ensures.ran (YieldsList-from_range 0 p.m p.m refl n) (λ x b q r. search (rules, tests))
     ∙ keeps-all (times_of c.args.times.now) p 0 p.m

@@ -21,19 +21,19 @@ begun p f rows o e q =
 
 pub returns-in-None : goal.returns-in-None
 returns-in-None c =
-    sym (whole-no (clauses_in c.args.p) c.args.list.now _ c.as_chunks.ensures.front (begun c.args.p c.none.result _ _ c.none.ensures.0 c.in-None.ensures))
+    sym (whole-no (clauses_in c.args.p.now) c.args.list.now _ c.as_chunks.ensures.front (begun c.args.p.now c.none.result _ _ c.none.ensures.0 c.in-None.ensures))
 
 pub returns-then-are_blank : goal.returns-then-are_blank
 returns-then-are_blank c =
     c.is_blank.ensures
     ∙ ap blank c.as_chunks.ensures.back
     ∙ sym
-    (whole_row (clauses_in c.args.p) c.args.list.now _ c.as_chunks.ensures.front _ (begun c.args.p c.none.result _ _ c.none.ensures.0 c.in-Some.ensures)
+    (whole_row (clauses_in c.args.p.now) c.args.list.now _ c.as_chunks.ensures.front _ (begun c.args.p.now c.none.result _ _ c.none.ensures.0 c.in-Some.ensures)
     ∙ rw (sym c.are_blank.ensures ∙ c.if-are_blank.true) refl)
 
 pub returns-else-are_blank : goal.returns-else-are_blank
 returns-else-are_blank c =
     c.if-are_blank.false
     ∙ sym
-    (whole_row (clauses_in c.args.p) c.args.list.now _ c.as_chunks.ensures.front _ (begun c.args.p c.none.result _ _ c.none.ensures.0 c.in-Some.ensures)
+    (whole_row (clauses_in c.args.p.now) c.args.list.now _ c.as_chunks.ensures.front _ (begun c.args.p.now c.none.result _ _ c.none.ensures.0 c.in-Some.ensures)
     ∙ rw (sym c.are_blank.ensures ∙ c.if-are_blank.false) refl)

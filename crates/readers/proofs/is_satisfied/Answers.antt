@@ -8,7 +8,7 @@ use Rattle.readers.proofs.is_satisfied.Goals as goal
 pub returns : goal.returns
 unfolding satisfied
 returns c =
-    let arcs = c.args.p.arcs in
+    let arcs = c.args.p.now.arcs in
     let j = c.args.j in
     let tx = get_or c.args.times.now c.from.result (pos 0) in
     let ty = get_or c.args.times.now c.from-2.result (pos 0) in

@@ -5,7 +5,7 @@ use Rattle.search.proofs.run.Goals as goal
 
 pub loop-t-init : goal.loop-t-init
 loop-t-init c =
-    record { fine = start_fine c.args.p c.args.allowance _ c.requires.0; here = start-here c.args.p c.args.allowance _ c.args.reasons.now c.requires.1; sized = refl }
+    record { fine = start_fine c.args.p.now c.args.allowance _ c.requires.0; here = start-here c.args.p.now c.args.allowance _ c.args.reasons.now c.requires.1; sized = refl }
 
 pub loop-t-smaller : goal.loop-t-smaller
 loop-t-smaller c = (c.in-Continue.ensures.means _ c.loop-t.invariant.here).nearer

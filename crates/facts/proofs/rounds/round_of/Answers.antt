@@ -15,8 +15,8 @@ loop-fact-preserved g c =
     elim c.if-this-ne0.branch [
       | then-this-ne0 w ↦
           let t : not (eqb g.row.TURNED 0) ≡ true = ap not (ne_eqb _ _ w.if-this-ne0.true) in
-          upto-kept (not (eqb g.row.TURNED 0)) c.args.arcs.now _ _ _ _ c.from.result c.from-x.result c.from-y.result _ c.loop-fact.invariant c.from.ensures (rw t (c.from-x.ensures ∙ ap (λ (q : ℕ × ℕ). q.0) w.x-is)) (rw t (c.from-y.ensures ∙ ap (λ (q : ℕ × ℕ). q.1) w.x-is)) (rw c.saturating_sub.ensures at c.max.ensures)
+          upto-kept (not (eqb g.row.TURNED 0)) c.args.arcs.now _ _ _ _ c.from.result c.from-x.result c.from-y.result _ c.loop-fact.invariant c.from.ensures (rw t (c.from-x.ensures ∙ ap (λ (q : ℕ × ℕ). q.0) w.x-is)) (rw t (c.from-y.ensures ∙ ap (λ (q : ℕ × ℕ). q.1) w.x-is)) c.raised.ensures
       | else-this-ne0 w ↦
           let t : not (eqb g.row.TURNED 0) ≡ false = ap not (eq-eqb _ _ w.if-this-ne0.false) in
-          upto-kept (not (eqb g.row.TURNED 0)) c.args.arcs.now _ _ _ _ c.from.result c.from-x.result c.from-y.result _ c.loop-fact.invariant c.from.ensures (rw t (c.from-x.ensures ∙ ap (λ (q : ℕ × ℕ). q.0) w.x-is)) (rw t (c.from-y.ensures ∙ ap (λ (q : ℕ × ℕ). q.1) w.x-is)) (rw c.saturating_sub.ensures at c.max.ensures)
+          upto-kept (not (eqb g.row.TURNED 0)) c.args.arcs.now _ _ _ _ c.from.result c.from-x.result c.from-y.result _ c.loop-fact.invariant c.from.ensures (rw t (c.from-x.ensures ∙ ap (λ (q : ℕ × ℕ). q.0) w.x-is)) (rw t (c.from-y.ensures ∙ ap (λ (q : ℕ × ℕ). q.1) w.x-is)) c.raised.ensures
     ]

@@ -38,30 +38,30 @@ pub loop-j-init : goal.loop-j-init
 loop-j-init c =
     record {
       kept = none_kept _ _ _ _ _;
-      left = ap (λ (e : ℕ). dead sound (facts_in c.args.p c.args.f) (arcs_from (arcs c.args.p) (at c.args.p.starts c.args.d) (at c.args.p.starts e - at c.args.p.starts c.args.d))) (add-one c.args.d) ∙ c.requires.2;
+      left = ap (λ (e : ℕ). dead sound (facts_in c.args.p.now c.args.f) (arcs_from (arcs c.args.p.now) (at c.args.p.now.starts c.args.d) (at c.args.p.now.starts e - at c.args.p.now.starts c.args.d))) (add-one c.args.d) ∙ c.requires.2;
     }
 
 pub put_reason-requires : goal.put_reason-requires
 put_reason-requires c = (
-  within_put c.args.p c.requires.1 c.loop-j-test.true c.requires.0.within c.put.ensures.0,
-  subst (λ (L : List ℕ). sound (map (arc (arcs c.args.p)) L) ≡ false) (sym c.put.ensures.0) (dead-all _ _ _ _ c.loop-j-test.true c.loop-j.invariant.left).0,
-  omega (arith, c.requires.3, c.from.ensures, clause-next c.args.p c.args.d c.requires.1, size-most c.args.p c.args.d c.requires.1),
+  within_put c.args.p.now c.requires.1 c.loop-j-test.true c.requires.0.within c.put.ensures.0,
+  subst (λ (L : List ℕ). sound (map (arc (arcs c.args.p.now)) L) ≡ false) (sym c.put.ensures.0) (dead-all _ _ _ _ c.loop-j-test.true c.loop-j.invariant.left).0,
+  omega (arith, c.requires.3, c.from.ensures, clause-next c.args.p.now c.args.d c.requires.1, size-most c.args.p.now c.args.d c.requires.1),
 )
 
 pub loop-j-preserved : goal.loop-j-preserved
 loop-j-preserved c =
     let l = c.loop-j in
-    let x = cycle (arc (arcs c.args.p) l.j ∷ facts_in c.args.p c.args.f) in
+    let x = cycle (arc (arcs c.args.p.now) l.j ∷ facts_in c.args.p.now c.args.f) in
     let k = c.args.rows + c.from.result in
-    let put : c.put_reason.new.reasons ≡ put_row l.reasons k (row_of row_bytes x) = c.put_reason.ensures ∙ ap (λ (L : List ℕ). put_row l.reasons k (row_of row_bytes (cycle (map (arc (arcs c.args.p)) L)))) c.put.ensures.0 in
+    let put : c.put_reason.new.reasons ≡ put_row l.reasons k (row_of row_bytes x) = c.put_reason.ensures ∙ ap (λ (L : List ℕ). put_row l.reasons k (row_of row_bytes (cycle (map (arc (arcs c.args.p.now)) L)))) c.put.ensures.0 in
     record {
-      kept = subst (λ (r : List ℕ). Keeps c.args.reasons.now r c.args.rows (map (λ a. cycle (a ∷ facts_in c.args.p c.args.f)) (arcs_from (arcs c.args.p) (at c.args.p.starts c.args.d) (l.j + 1 - at c.args.p.starts c.args.d)))) (sym put) (keep-cycle _ _ _ _ _ _ _ _ l.invariant.kept (omega arith) (omega (arith, c.from.ensures)) (omega arith));
+      kept = subst (λ (r : List ℕ). Keeps c.args.reasons.now r c.args.rows (map (λ a. cycle (a ∷ facts_in c.args.p.now c.args.f)) (arcs_from (arcs c.args.p.now) (at c.args.p.now.starts c.args.d) (l.j + 1 - at c.args.p.now.starts c.args.d)))) (sym put) (keep-cycle _ _ _ _ _ _ _ _ l.invariant.kept (omega arith) (omega (arith, c.from.ensures)) (omega arith));
       left = (dead-all _ _ _ _ c.loop-j-test.true l.invariant.left).1;
     }
 
 pub returns : goal.returns
 returns c =
     let l = c.loop-j in
-    let up = clause-next c.args.p c.args.d c.requires.1 in
-    let over : at c.args.p.starts (c.args.d + 1) ≡ l.j = omega (arith, up, l.auto.j-end (omega (arith, up))) in
-    (subst (λ (e : ℕ). Keeps c.args.reasons.now l.reasons c.args.rows (map (λ a. cycle (a ∷ facts_in c.args.p c.args.f)) (arcs_from (arcs c.args.p) (at c.args.p.starts c.args.d) (e - at c.args.p.starts c.args.d)))) (sym over ∙ ap (at c.args.p.starts) (add-one c.args.d)) l.invariant.kept, omega (arith, c.from-2.ensures, up))
+    let up = clause-next c.args.p.now c.args.d c.requires.1 in
+    let over : at c.args.p.now.starts (c.args.d + 1) ≡ l.j = omega (arith, up, l.auto.j-end (omega (arith, up))) in
+    (subst (λ (e : ℕ). Keeps c.args.reasons.now l.reasons c.args.rows (map (λ a. cycle (a ∷ facts_in c.args.p.now c.args.f)) (arcs_from (arcs c.args.p.now) (at c.args.p.now.starts c.args.d) (e - at c.args.p.now.starts c.args.d)))) (sym over ∙ ap (at c.args.p.now.starts) (add-one c.args.d)) l.invariant.kept, omega (arith, c.from-2.ensures, up))

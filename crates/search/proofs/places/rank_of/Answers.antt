@@ -37,13 +37,13 @@ overflow_add-before c =
 pub overflow_mul-all : goal.overflow_mul-all
 overflow_mul-all c =
     let l = c.loop-i in
-    let grown : c.size-all.result * l.all ≡ product (clauses_from c.args.p (l.i - 1) (c.args.p.m - (l.i - 1))) = product-grown c.args.p l.i l.all (omega arith) (omega (arith, c.requires.few)) l.invariant.whole _ c.size-all.ensures in
-    omega (arith, product_small c.args.p (l.i - 1) (omega (arith, c.requires.few)))
+    let grown : c.size-all.result * l.all ≡ product (clauses_from c.args.p.now (l.i - 1) (c.args.p.now.m - (l.i - 1))) = product-grown c.args.p.now l.i l.all (omega arith) (omega (arith, c.requires.few)) l.invariant.whole _ c.size-all.ensures in
+    omega (arith, product_small c.args.p.now (l.i - 1) (omega (arith, c.requires.few)))
 
 pub loop-i-preserved : goal.loop-i-preserved
 loop-i-preserved c =
     let l = c.loop-i in
     record {
-      whole = product-grown c.args.p l.i l.all (omega arith) (omega (arith, c.requires.few)) l.invariant.whole _ c.size-all.ensures;
+      whole = product-grown c.args.p.now l.i l.all (omega arith) (omega (arith, c.requires.few)) l.invariant.whole _ c.size-all.ensures;
       ranked = (counted c.requires (search rules) c.loop-i-test.true l.invariant.whole l.invariant.ranked (omega arith) c.from.ensures).0;
     }

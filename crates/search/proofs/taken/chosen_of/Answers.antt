@@ -12,7 +12,7 @@ use Rattle.search.proofs.taken.chosen_of.Goals as goal
 
 pub loop-i-init : goal.loop-i-init
 loop-i-init c =
-    record { chosen = c.none-f.ensures.0 ∙ sym (chosen-end c.args.p.starts c.args.picks c.args.p.m); room = omega (arith, c.none-f.ensures.1) }
+    record { chosen = c.none-f.ensures.0 ∙ sym (chosen-end c.args.p.now.starts c.args.picks c.args.p.now.m); room = omega (arith, c.none-f.ensures.1) }
 
 pub loop-i-preserved : goal.loop-i-preserved
 loop-i-preserved c =
@@ -21,7 +21,7 @@ loop-i-preserved c =
     record {
       chosen =
           c.put-f.ensures.0
-          ∙ ap (λ (L : List ℕ). (at c.args.p.starts (i - 1) + at c.args.picks (i - 1)) ∷ L) (c.loop-i.invariant.chosen ∙ ap (λ (d : ℕ). chosen_facts c.args.p.starts d (drop d (take c.args.p.m c.args.picks))) (sym whole))
-          ∙ sym (chosen-front c.args.p.starts c.args.picks c.args.p.m (i - 1) (omega arith) (picks-enough c.requires (search rules)));
+          ∙ ap (λ (L : List ℕ). (at c.args.p.now.starts (i - 1) + at c.args.picks (i - 1)) ∷ L) (c.loop-i.invariant.chosen ∙ ap (λ (d : ℕ). chosen_facts c.args.p.now.starts d (drop d (take c.args.p.now.m c.args.picks))) (sym whole))
+          ∙ sym (chosen-front c.args.p.now.starts c.args.picks c.args.p.now.m (i - 1) (omega arith) (picks-enough c.requires (search rules)));
       room = omega (arith, c.put-f.ensures.1);
     }

@@ -15,11 +15,11 @@ loop-c-preserved c =
     let l = c.loop-c in
     let s = c.args.s in
     let in-clause = c.requires.each l.c (omega arith) in
-    let next = clause-next c.args.p l.c (omega (arith, c.requires.few)) in
+    let next = clause-next c.args.p.now l.c (omega (arith, c.requires.few)) in
     record {
       same =
-          ap (standing_facts c.args.p.starts (l.c + 1) (drop (l.c + 1) (take s.k s.picks))) c.taking-f.ensures.0
-          ∙ sym (standing-step c.args.p.starts s.picks (held l.f) s.k l.c (omega arith) (picks-enough c.requires (search rules)))
+          ap (standing_facts c.args.p.now.starts (l.c + 1) (drop (l.c + 1) (take s.k s.picks))) c.taking-f.ensures.0
+          ∙ sym (standing-step c.args.p.now.starts s.picks (held l.f) s.k l.c (omega arith) (picks-enough c.requires (search rules)))
           ∙ l.invariant.same;
       room = omega (arith, c.taking-f.ensures.1);
     }
@@ -29,4 +29,4 @@ returns c =
     let l = c.loop-c in
     let s = c.args.s in
     let whole : l.c ≡ s.k = omega arith in
-    (all-taken c.args.p.starts s.picks (held l.f) s.k l.c whole l.invariant.same, omega (arith, ap (at c.args.p.starts) whole))
+    (all-taken c.args.p.now.starts s.picks (held l.f) s.k l.c whole l.invariant.same, omega (arith, ap (at c.args.p.now.starts) whole))

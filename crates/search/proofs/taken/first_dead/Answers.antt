@@ -12,7 +12,7 @@ use Rattle.search.proofs.taken.first_dead.Goals as goal
 
 pub loop-d-init : goal.loop-d-init
 loop-d-init c =
-    ahead-zero _ ∙ ap (λ (n : ℕ). ahead n (first_dead sound (facts_in c.args.p c.args.f) (clauses_from c.args.p c.args.k (c.args.p.m - c.args.k)))) (let e : 0 ≡ c.args.k - c.args.k = omega arith in e)
+    ahead-zero _ ∙ ap (λ (n : ℕ). ahead n (first_dead sound (facts_in c.args.p.now c.args.f) (clauses_from c.args.p.now c.args.k (c.args.p.now.m - c.args.k)))) (let e : 0 ≡ c.args.k - c.args.k = omega arith in e)
 
 pub returns-then-is_dead : goal.returns-then-is_dead
 returns-then-is_dead c =
@@ -21,7 +21,7 @@ returns-then-is_dead c =
       some-dead = (
         omega arith,
         omega arith,
-        l.invariant ∙ first_found c.args.p (facts_in c.args.p c.args.f) c.args.k l.d c.args.p.m (omega arith) (sym c.if-is_dead.true ∙ c.is_dead.ensures),
+        l.invariant ∙ first_found c.args.p.now (facts_in c.args.p.now c.args.f) c.args.k l.d c.args.p.now.m (omega arith) (sym c.if-is_dead.true ∙ c.is_dead.ensures),
       );
       none-dead = λ e. absurd (true≢false e);
     }
@@ -29,9 +29,9 @@ returns-then-is_dead c =
 pub loop-d-preserved : goal.loop-d-preserved
 loop-d-preserved c =
     let l = c.loop-d in
-    l.invariant ∙ first_step c.args.p (facts_in c.args.p c.args.f) c.args.k l.d c.args.p.m (omega arith) (omega arith) (sym c.if-is_dead.false ∙ c.is_dead.ensures)
+    l.invariant ∙ first_step c.args.p.now (facts_in c.args.p.now c.args.f) c.args.k l.d c.args.p.now.m (omega arith) (omega arith) (sym c.if-is_dead.false ∙ c.is_dead.ensures)
 
 pub returns : goal.returns
 returns c =
     let l = c.loop-d in
-    record { some-dead = tt; none-dead = λ e. l.invariant ∙ first-none c.args.p (facts_in c.args.p c.args.f) c.args.k l.d c.args.p.m (omega arith) }
+    record { some-dead = tt; none-dead = λ e. l.invariant ∙ first-none c.args.p.now (facts_in c.args.p.now c.args.f) c.args.k l.d c.args.p.now.m (omega arith) }

@@ -19,10 +19,10 @@ loop-j-preserved c =
 pub returns : goal.returns
 returns c =
     let i = c.loop-j.invariant in
-    let done : at c.args.p.starts c.args.k + c.args.pick ≡ c.loop-j.j = omega (arith, c.loop-j.auto.j-end (omega arith)) in (
+    let done : at c.args.p.now.starts c.args.k + c.args.pick ≡ c.loop-j.j = omega (arith, c.loop-j.auto.j-end (omega arith)) in (
       c.put.ensures.0
           ∙ sym (takes-last (held c.loop-j.f) c.loop-j.j _ done)
           ∙ i.same
-          ∙ ap (λ (d : ℕ). takes (at c.args.p.starts c.args.k) d (held c.args.f)) (let e : at c.args.p.starts c.args.k + c.args.pick - at c.args.p.starts c.args.k ≡ c.args.pick = omega arith in e),
+          ∙ ap (λ (d : ℕ). takes (at c.args.p.now.starts c.args.k) d (held c.args.f)) (let e : at c.args.p.now.starts c.args.k + c.args.pick - at c.args.p.now.starts c.args.k ≡ c.args.pick = omega arith in e),
       omega (arith, c.put.ensures.1),
     )

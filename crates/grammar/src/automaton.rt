@@ -298,6 +298,7 @@ pub fn table() -> [u8; SIZE]
 }
 
 // The role of a byte of a class at a state that has the role r: ends are `)`, digits have two classes, a symbol's bytes those from 6 on.
+// Both are the table's numbers, as the test of its entries (proofs/Entries) computes them; `step` reads them as a Role.
 fn role_in(r: u8, class: usize) -> u8
     ensures { result ≡ role_in r class }
 {

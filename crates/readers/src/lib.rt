@@ -144,7 +144,12 @@ fn dead<'a>(
 }
 
 // The rows after the reading of the standing with k clauses chosen, from the first row on.
-fn reading<'a>(p: &Problem, rows: &'a [[u8; ROW]], k: usize, facts: Facts) -> Option<&'a [[u8; ROW]]>
+fn reading<'a>(
+    p: &Problem,
+    rows: &'a [[u8; ROW]],
+    k: usize,
+    facts: Facts,
+) -> Option<&'a [[u8; ROW]]>
     requires { Stands p.now k facts }
     ensures { Answers (read row_bytes (clauses_from p.now k (p.now.m - k)) k (facts_from p.now facts) rows.now) result }
 {

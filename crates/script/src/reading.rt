@@ -42,6 +42,7 @@ fn new_name(text: &[u8], name: Span, notes: Notes) -> Result<Notes, Refused>
 }
 
 // The notes with the event of the open atom's first name, or of its second.
+#[tactic(auto, unfolding(crate::specs::Notes::noted))]
 fn with_event(notes: Notes, second: bool, event: u8) -> Notes
     ensures { result ≡ noted second event notes }
 {

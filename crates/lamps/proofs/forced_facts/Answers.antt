@@ -55,8 +55,7 @@ loop-k-preserved c =
 pub returns : goal.returns
 returns c =
     let i = c.loop-k.invariant in
-    let p = c.args.p.now in
-    (
+    let p = c.args.p.now in (
       record {
         free = omega (arith, p.laid.few, i.room);
         within = record { known = i.known; few = omega (arith, p.laid.full, length-map p.arcs (λ (e : Edge). e.x)) };

@@ -80,6 +80,7 @@ impl Span {
 }
 
 // The names declared so far: how many, and where each stands in the text.
+// An array with its length beside it, since memory is fixed: there is no heap.
 #[derive(Clone, Copy)]
 pub struct Names {
     pub n: usize,

@@ -61,6 +61,7 @@ fn is_again(second: bool, x: u8, event: u8) -> bool
 }
 
 // A name of an atom, the first or the second: 20 at its first byte where it is not declared, 12 where it is the atom's first name again.
+// Which of the two is a flag, as in `Reading.with_event`, and the sign of a bound is one, as in `Reading.signed`.
 fn atom_name(text: &[u8], name: Span, second: bool, notes: Notes) -> Result<Notes, Refused>
     requires { Ready text.now name notes }
     ensures { Took text.now (with_event second name.from (word_at text.now name)) notes name.to result }

@@ -9,6 +9,7 @@ use problem::{ALTERNATIVES, CLAUSES};
 pub const NUMBERS: usize = 3 * ALTERNATIVES;
 
 // How many alternatives were read, the triples of the first 64 of them, how many clauses, and their counts. Unused numbers are 0.
+// Arrays with their lengths beside them, since memory is fixed: there is no heap.
 #[derive(Clone, Copy)]
 pub struct Rules {
     pub alternatives: usize,

@@ -88,15 +88,6 @@ fn serve_lines(
     served
 }
 
-// Moves the bytes from `from` up to `to` to the front; the library has no `copy_within`.
-fn move_to_front(text: &mut [u8], from: usize, to: usize)
-    requires { to ≤ length text.old }
-{
-    for i in from..to {
-        text[i - from] = text[i];
-    }
-}
-
 // Keeps what remains of text, up to `end`, at its front: after the last line that ended, if one did, and else the line that goes on. Answers
 // how many bytes are kept; none of a line that is too long, as one that fills the text is.
 fn keep(text: &mut [u8], served: Option<usize>, end: usize, too_long: bool) -> Option<usize>
@@ -105,7 +96,7 @@ fn keep(text: &mut [u8], served: Option<usize>, end: usize, too_long: bool) -> O
     ensures { IfSome result (λ bytes. bytes ≤ length text.old) }
 {
     if let Some(start) = served {
-        move_to_front(text, start, end);
+        text.copy_within(start..end, 0);
         return Some(end - start);
     }
     if too_long || end == text.len() {

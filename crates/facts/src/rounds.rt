@@ -29,7 +29,7 @@ pub fn round_of<const TURNED: bool>(
 {
     let mut nxt = cur;
     for &fact in facts {
-        let arc = arcs[usize::from(fact)];
+        let arc = &arcs[usize::from(fact)];
         let (x, y) = if TURNED {
             (arc.y, arc.x)
         } else {

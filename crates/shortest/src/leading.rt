@@ -17,7 +17,7 @@ fn leads(arcs: &[Edge], j: u8, u: usize, need: u32, heights: &[u32; EVENTS]) -> 
     requires { Arc (net arcs.now) most_events j × ((v : ℕ) → at heights.now v ≤ peak) × (need ≤ peak) }
     ensures { IsTrue result ↔ Leads (net arcs.now) heights.now u need j }
 {
-    let arc = arcs[usize::from(j)];
+    let arc = &arcs[usize::from(j)];
     usize::from(arc.y) == u && need + arc.b < heights[usize::from(arc.x)] + BIAS
 }
 
@@ -52,7 +52,7 @@ pub fn first_from(
     for i in 0..size {
         let left = size - i - 1;
         let j = next_arc(arcs, facts, u, need, &tab[left]).unwrap();
-        let arc = arcs[usize::from(j)];
+        let arc = &arcs[usize::from(j)];
         out[i] = j;
         u = usize::from(arc.x);
         need = need + arc.b - BIAS;

@@ -26,6 +26,10 @@ pub record Extending (r s : List ℕ) (from to w n x y b u : ℕ) : Type 0 where
 pub row-past : (w i j : ℕ) → i < j → i * w + w ≤ j * w
 row-past w i j l = omega (arith, mul-le-mul_right w (let h : suc i ≤ j = l in h), suc-mul i w)
 
+-- the row of a turn lies in the table
+pub row_in : (row u w n : ℕ) → row ≡ u * w → u < n → row + w ≤ n * w
+row_in row u w n e l = omega (arith, row-past w u n l, e)
+
 -- what lies beside the table is outside it, and so is what lies past its rows' entries
 pub beside-outside : (k to w n : ℕ) → n ≤ w → Beside k to (n * w) → Outside k to w n
 beside-outside k to w n wide (inl b) u v l m e = omega arith

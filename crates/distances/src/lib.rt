@@ -16,7 +16,7 @@ use problem::EVENTS;
 // The number of the distance 0.
 pub const MIDDLE: u32 = 2300024;
 
-// The number of none.
+// The number of none. A number and no Option: a table is lowered word by word, which an Option's tag would slow (docs/PERFORMANCE.md).
 pub const NO_WAY: u32 = 1073741824;
 
 // What a way over a fact adds too much: the distance 0 and the bound 0 in numbers.

@@ -20,7 +20,7 @@ use Rattle.distances.specs.Numbers.{distance, table_at}
 use Rattle.standing.specs.Standing.{every, in_range, is_zero, is_none, is_table}
 use Rattle.standing.specs.Numbers.{placed_at}
 use Rattle.standing.proofs.Every.{every-all, all-every}
-use Rattle.standing.proofs.Passing.{Passes, passes, passed}
+use Rattle.standing.proofs.Passing.{Passes, passes, passed, pair-all, all-pair}
 
 -- ---- places
 -- place k is in row k / 24 and column k % 24
@@ -71,7 +71,7 @@ module _ (s : List ℕ) (n : ℕ) (few : n ≤ most_events) where
   AllNumbers = every (most_events * most_events) (λ (k : ℕ). in_range (distance (at s k)))
 
   abbrev pub AllPlaced : Bool
-  AllPlaced = every (most_events * most_events) (λ (k : ℕ). placed_at n (k / most_events) (k % most_events) (distance (at s k)))
+  AllPlaced = every most_events (λ (u : ℕ). every most_events (λ (v : ℕ). placed_at n u v (table_at s 0 most_events u v)))
 
   abbrev pub AllKept : Bool
   AllKept = every n (λ (u : ℕ). every n (λ (w : ℕ). every n (λ (v : ℕ). no_longer (table_at s 0 most_events u v) (and_then (table_at s 0 most_events u w) (table_at s 0 most_events w v)))))
@@ -97,7 +97,7 @@ module _ (s : List ℕ) (n : ℕ) (few : n ≤ most_events) where
       })
     where
       placed : (u v : ℕ) → u < most_events → v < most_events → T (placed_at n u v (table_at s 0 most_events u v))
-      placed = at_pair (λ u v d. T (placed_at n u v d)) (every-all (most_events * most_events) (λ (k : ℕ). placed_at n (k / most_events) (k % most_events) (distance (at s k))) b)
+      placed = pair-all most_events (λ (u v : ℕ). placed_at n u v (table_at s 0 most_events u v)) b
 
   pub table_is : T (is_table n (table_at s 0 most_events)) → T AllNumbers × T AllPlaced × T AllKept
   table_is h = go (passes n (table_at s 0 most_events) h)
@@ -107,8 +107,8 @@ module _ (s : List ℕ) (n : ℕ) (few : n ≤ most_events) where
         all-every (most_events * most_events) (λ (k : ℕ). in_range (distance (at s k))) (at_place (λ u v d. T (in_range d)) (λ u v l m.
             ⊎_elim (λ (i : u < n). ⊎_elim (λ (j : v < n). p.ranged u v i j) (λ (j : n ≤ v). none-ranged (table_at s 0 most_events u v) (p.past u v l m (inr j))) (lt-or-ge v n))
             (λ (i : n ≤ u). none-ranged (table_at s 0 most_events u v) (p.past u v l m (inl i))) (lt-or-ge u n))),
-        all-every (most_events * most_events) (λ (k : ℕ). placed_at n (k / most_events) (k % most_events) (distance (at s k))) (at_place (λ u v d. T (placed_at n u v d)) (λ u v l m.
-            is-placed n u v (table_at s 0 most_events u v) (λ o. p.past u v l m o) (λ i q. subst (λ (w : ℕ). T (is_zero (table_at s 0 most_events u w))) q (p.own u i)))),
+        all-pair most_events (λ (u v : ℕ). placed_at n u v (table_at s 0 most_events u v)) (λ u v l m.
+            is-placed n u v (table_at s 0 most_events u v) (λ o. p.past u v l m o) (λ i q. subst (λ (w : ℕ). T (is_zero (table_at s 0 most_events u w))) q (p.own u i))),
         all-every n (λ (u : ℕ). every n (λ (w : ℕ). every n (λ (v : ℕ). no_longer (table_at s 0 most_events u v) (and_then (table_at s 0 most_events u w) (table_at s 0 most_events w v))))) (λ u l.
             all-every n (λ (w : ℕ). every n (λ (v : ℕ). no_longer (table_at s 0 most_events u v) (and_then (table_at s 0 most_events u w) (table_at s 0 most_events w v)))) (λ w m.
             all-every n (λ (v : ℕ). no_longer (table_at s 0 most_events u v) (and_then (table_at s 0 most_events u w) (table_at s 0 most_events w v))) (λ v k. p.detour u w v l m k))),

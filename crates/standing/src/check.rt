@@ -1,5 +1,5 @@
 // Which numbers are a standing day (02, A8, refusal 16): in range, in their places, and with no detour shorter than an entry.
-ghost use Rattle.std.specs.Prelude.{◌≡◌, ℕ, ◌+◌, ◌*◌, ◌/◌, ◌%◌, ◌<◌, ◌≤◌, length};
+ghost use Rattle.std.specs.Prelude.{◌≡◌, ℕ, ◌+◌, ◌*◌, ◌<◌, ◌≤◌, length};
 ghost use Rattle.meaning.specs.Limits.{most_events};
 ghost use Rattle.problem.specs.Arcs.{at};
 ghost use Rattle.distances.specs.Adding.{no_longer, and_then};
@@ -9,7 +9,6 @@ ghost use Rattle.meaning.specs.Screen.{is_size, first_failed};
 ghost use Rattle.standing.specs.Standing.{every, in_range, is_table, table_tests};
 ghost use Rattle.standing.specs.Numbers.{placed_at};
 
-use super::ENTRIES;
 use distances::{MIDDLE, NO_WAY};
 use meaning::Refusal;
 use problem::EVENTS;
@@ -43,12 +42,20 @@ fn is_placed(e: u32, u: usize, v: usize, n: usize) -> bool
     }
 }
 
+// Whether all numbers of event u's row may stand where they do.
+fn row_placed(s: &[u32], n: usize, u: usize) -> bool
+    requires { (length s.now ≡ most_events * most_events) × (u < most_events) }
+    ensures { result ≡ every most_events (λ (v : ℕ). placed_at n u v (table_at s.now 0 most_events u v)) }
+{
+    (0..EVENTS).all(|v| is_placed(s[u * EVENTS + v], u, v, n))
+}
+
 // Whether all numbers may stand where they do.
 fn all_placed(s: &[u32], n: usize) -> bool
     requires { length s.now ≡ most_events * most_events }
-    ensures { result ≡ every (most_events * most_events) (λ (k : ℕ). placed_at n (k / most_events) (k % most_events) (distance (at s.now k))) }
+    ensures { result ≡ every most_events (λ (u : ℕ). every most_events (λ (v : ℕ). placed_at n u v (table_at s.now 0 most_events u v))) }
 {
-    (0..ENTRIES).all(|k| is_placed(s[k], k / EVENTS, k % EVENTS, n))
+    (0..EVENTS).all(|u| row_placed(s, n, u))
 }
 
 // Whether the distance of e is no longer than the way of p and then q.

@@ -23,7 +23,7 @@ pub struct Day {
     pub entries: [i32; ENTRIES],
 }
 
-// The refusal's number, or 0, and the day.
+// The refusal's number, or 0, and the day. No Result: refused, the day as it came is part of the answer, and a refusal's number is a byte.
 #[derive(Clone, Copy)]
 pub struct Answered {
     pub number: u8,

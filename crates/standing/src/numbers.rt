@@ -10,7 +10,7 @@ use super::ENTRIES;
 use distances::{Grid, MIDDLE, NO_WAY};
 use problem::EVENTS;
 
-// The entry that stands for none.
+// The entry that stands for none: A8's own number, so no Option.
 const NO_ENTRY: i32 = 2147483647;
 
 // The longest distance.

@@ -38,7 +38,7 @@ fn fact(arcs: &[Edge], j: usize) -> Fact
     }
 }
 
-// Whether arc j has a timetable with the facts of the table at `base`.
+// Whether arc j has a timetable with the facts of the table at `base`. n and the arcs come apart: a `Problem` would ask for its whole layout.
 fn fits(days: &[u32], base: usize, n: usize, arcs: &[Edge], j: usize) -> bool
     requires { (base + n * n ≤ length days.now) × Arc (net arcs.now) n j × (j < 2 * most_alternatives) × Held days.now base n }
     ensures { (fs : List Alternative) → DayOf n fs (table_at days.now base n) → result ≡ sound (arc (net arcs.now) j ∷ fs) }

@@ -1,19 +1,19 @@
 -- `extend` meets its contract. Assumes nothing.
-use mathlib.Core.Path.{◌≡◌, ap, ◌∙◌}
+use mathlib.Core.Path.{◌≡◌, refl, ap, ◌∙◌}
 use Prim.Native.Nat.{ℕ, ◌+◌, ◌*◌}
 use native.Mathlib.Omega.{arith}
 use Rattle.problem.specs.Arcs.{at}
 use Rattle.distances.specs.Numbers.{shift}
-use Rattle.distances.proofs.Tables.{extending-all, extending-more, clear-own, clear-through, row-past}
+use Rattle.distances.proofs.Tables.{extending-all, extending-more, clear-own, clear-through, row_in}
 use Rattle.distances.proofs.Meaning.{extended-holds}
 use Rattle.distances.proofs.extend.Goals as goal
 
 pub lower_row-requires : goal.lower_row-requires
 lower_row-requires c =
     let u = c.loop-u.u in (
-      omega (arith, row-past c.args.day.w u c.args.day.n (omega arith)),
-      omega (arith, row-past c.args.day.w u c.args.day.n (omega arith)),
-      omega (arith, row-past c.args.day.w c.args.fact.x c.args.day.n (omega arith)),
+      omega (arith, row_in _ u c.args.day.w c.args.day.n refl (omega arith)),
+      omega (arith, row_in _ u c.args.day.w c.args.day.n refl (omega arith)),
+      omega (arith, row_in _ c.args.fact.x c.args.day.w c.args.day.n refl (omega arith)),
       c.shift_of-t.ensures.1,
       clear-own _ _ _ _ _ _ _ _ c.args.day.wide c.requires.2 c.requires.3 c.requires.5 u (omega arith),
       clear-through _ _ _ _ _ _ _ _ c.args.day.wide c.requires.2 c.requires.3 c.requires.5 u (omega arith),

@@ -4,6 +4,7 @@
 
 ghost use Rattle.std.specs.Prelude.{◌≡◌, ◌≤◌, ◌<◌, length};
 
+use dialogue::Writer;
 use problem::EVENTS;
 use standing::{Answered, Day, ENTRIES};
 
@@ -13,16 +14,16 @@ const NONE: i32 = 2147483647;
 // The most elements that are lent for a timetable.
 const TIMES: usize = 6;
 
-const SPACE: u8 = 32;
-
 // A space and a whole number at its longest: a sign and ten digits.
 const WHOLE: usize = 12;
 
 // Writes a space and a whole number.
 fn write_whole(z: i32) {
-    let mut text = [SPACE; WHOLE];
-    let end = dialogue::put_signed(&mut text[..], 1, z);
-    io::write_all(1, &text[..end]);
+    let mut room = [0; WHOLE];
+    let mut text = Writer::new(&mut room);
+    text.put(b" ");
+    text.put_signed(z);
+    io::write_all(1, text.text());
 }
 
 // Writes a space and an entry.

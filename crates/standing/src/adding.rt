@@ -66,9 +66,9 @@ fn arc_of(opposite: bool) -> usize
 }
 
 // Arc j is tried on the numbers of a day: refused with 13 or 16, or the new numbers.
-fn tried(p: Problem, mut numbers: [u32; ENTRIES], j: usize) -> Result<[u32; ENTRIES], Refusal>
-    requires { (p.n ≤ most_events) × Arc (arcs p) p.n j × Capped numbers × T (is_table p.n (table_at numbers 0 most_events)) }
-    ensures { Tries numbers p.n (arc (arcs p) j) result }
+fn tried(p: &Problem, mut numbers: [u32; ENTRIES], j: usize) -> Result<[u32; ENTRIES], Refusal>
+    requires { (p.now.n ≤ most_events) × Arc (arcs p.now) p.now.n j × Capped numbers × T (is_table p.now.n (table_at numbers 0 most_events)) }
+    ensures { Tries numbers p.now.n (arc (arcs p.now) j) result }
 {
     let day = grid(p.n);
     let arc = p.arcs[j];
@@ -95,7 +95,7 @@ fn added(day: &Day, x: i32, y: i32, c: i32, opposite: bool) -> Result<Day, Refus
     let s = numbers_of(&day.entries);
     day_refusal(&s[..], day.n)?;
     let p = alternative(day.n, x, y, c)?;
-    let numbers = tried(p, s, arc_of(opposite))?;
+    let numbers = tried(&p, s, arc_of(opposite))?;
     Ok(Day {
         n: day.n,
         entries: entries_of(&numbers),

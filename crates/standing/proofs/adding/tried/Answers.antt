@@ -15,8 +15,8 @@ use Rattle.standing.proofs.adding.tried.Goals as goal
 
 pub offset_bounds-p-j : goal.offset_bounds-p-j
 offset_bounds-p-j c =
-    let l : c.args.j < length c.args.p.arcs = in-edges _ _ c.requires.1 in
-    let long : length c.args.p.arcs ≡ 128 = search rules in
+    let l : c.args.j < length c.args.p.now.arcs = in-edges _ _ c.requires.1 in
+    let long : length c.args.p.now.arcs ≡ 128 = search rules in
     omega arith
 
 -- ---- the arc in numbers
@@ -38,7 +38,7 @@ module _ (edges : List Edge) (n j : ℕ) (a : Arc (net edges) n j) where
 
 pub returns-then-not-fits_with : goal.returns-then-not-fits_with
 returns-then-not-fits_with c =
-    let p = c.args.p in
+    let p = c.args.p.now in
     let h = c.requires.1 in
     let e = edge p.arcs p.n c.args.j h in
     let fits = rw (c.grid-day.ensures.0, c.grid-day.ensures.1) at c.fits_with.ensures.numbers in
@@ -47,7 +47,7 @@ returns-then-not-fits_with c =
 
 pub returns-then-not-all_numbers : goal.returns-then-not-all_numbers
 returns-then-not-all_numbers c =
-    let p = c.args.p in
+    let p = c.args.p.now in
     let h = c.requires.1 in
     let e = edge p.arcs p.n c.args.j h in
     let fits = rw (c.grid-day.ensures.0, c.grid-day.ensures.1) at c.fits_with.ensures.numbers in
@@ -57,7 +57,7 @@ returns-then-not-all_numbers c =
 
 pub returns : goal.returns
 returns c =
-    let p = c.args.p in
+    let p = c.args.p.now in
     let h = c.requires.1 in
     let e = edge p.arcs p.n c.args.j h in
     let fits = rw (c.grid-day.ensures.0, c.grid-day.ensures.1) at c.fits_with.ensures.numbers in

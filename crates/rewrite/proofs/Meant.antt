@@ -12,7 +12,7 @@ use Rattle.script.specs.Script.{script_in, lent_in, most_bytes}
 use Rattle.script.specs.Text.{text_of}
 use Rattle.script.proofs.Fronts.{script-problem}
 use Rattle.script.proofs.Lengths.{text-length}
-use Rattle.script.proofs.Rewriting.{text-script, text-read, texts-apart}
+use Rattle.script.proofs.Rewriting.{text-read, texts-apart}
 use Rattle.rewrite.specs.Says.{of_script, rewriting}
 
 -- a text that `rewrite` takes: not too long, and a script
@@ -30,17 +30,18 @@ module _ (text : List ℕ) (taken : Taken text) where
   pub printed-taken : Taken (rewriting text)
   printed-taken =
       let accepted = script-problem text taken.script taken.read in
-      let r = text-script (lent_in taken.script) accepted in
+      let r = text-read (lent_in taken.script) accepted in
       record { short = rw prints (omega (arith, text-length (lent_in taken.script) accepted)); script = r.0; read = rw prints r.1 }
 
-  pub printed-same : (p : Taken (rewriting text)) → lent_in p.script ≡ lent_in taken.script
-  printed-same p = text-read (lent_in taken.script) (script-problem text taken.script taken.read) p.script (rw prints at p.read)
+  pub printed-same : lent_in printed-taken.script ≡ lent_in taken.script
+  unfolding printed-taken
+  printed-same = (text-read (lent_in taken.script) (script-problem text taken.script taken.read)).2
 
 -- written anew once more, it stays as it is
 pub printed-again : (text : List ℕ) → Taken text → rewriting (rewriting text) ≡ rewriting text
 printed-again text taken =
     let p = printed-taken text taken in
-    prints (rewriting text) p ∙ ap text_of (printed-same text taken p) ∙ sym (prints text taken)
+    prints (rewriting text) p ∙ ap text_of (printed-same text taken) ∙ sym (prints text taken)
 
 -- the same bytes exactly where the problem is the same
 module _ (a b : List ℕ) (p : Taken a) (q : Taken b) where

@@ -1,12 +1,14 @@
--- The automaton's table, and what is read by it: a step, and a piece. Definitions only.
+-- The automaton's table, and what is read by it: a step, and a piece. Definitions, and that a table has one proof at most, as a ghost field must.
 -- The table has the class of each byte, and then a row for each state: the next state for each class, the one role besides `other` that a
 -- byte may have there, and 1 where the text may end there.
 use Rattle.std.specs.Prelude.{◌≡◌, Bool, true, false, cond, List, [], ◌∷◌, ℕ, ◌+◌, ◌*◌, ◌≤◌, ◌<◌, leb, eqb, length, get_or, drop, Option, Some, None}
+use Rattle.std.specs.Coded.{Coded-set, coded_ℕ}
 use Rattle.std.proofs.Math.Option.{some}
 use Rattle.std.proofs.Math.Seq.{slice}
+use Rattle.std.proofs.Props.{props}
 use Rattle.grammar.specs.declared.automaton.Move.{Move}
 use Rattle.grammar.specs.declared.pieces.Part.{Part}
-use Rattle.grammar.specs.Grammar.{role_no}
+use Rattle.grammar.specs.Grammar.{kinds-apart, roles-apart, role_no, Grammar, grammars-apart}
 use Rattle.grammar.specs.Roles.{meant}
 use Rattle.grammar.specs.Place.{ends, live, after, role_of, place_from}
 use Rattle.grammar.specs.Pieces.{pieces}
@@ -53,6 +55,13 @@ pub record IsTable (t : List ℕ) : Type 0 where
   pub small : (b : ℕ) → b < 256 → class_of t b < classes
   pub steps : (s b : ℕ) → s < 256 → b < 256 → Steps s b (entry t s (class_of t b)) (role_in (entry t s role_column) (class_of t b))
   pub ending : (s : ℕ) → s < 256 → entry t s end_column ≡ end_no (ends (grammar_of s))
+
+-- of two grammars' being equal there is one proof at most, and so of a list's being the table
+Grammar-set : IsSet Grammar
+Grammar-set = grammars-apart roles-apart (kinds-apart (Coded-set coded_ℕ))
+
+pub IsTable-prop : (t : List ℕ) → IsProp (IsTable t)
+IsTable-prop t = Prim.hlevel (Grammar-set, props)
 
 -- ---- what is read by it
 -- where the byte b leads from the state s: None where it is refused

@@ -25,6 +25,7 @@ pub data Kind : Type 0 where
   symbol_byte : Kind
   digit : Kind
   leading_digit : Kind
+  deriving IsSet as kinds-apart
 
 abbrev pub is_digit : ℕ → Bool
 is_digit b = leb 48 b && leb b 57
@@ -58,6 +59,7 @@ pub data Role : Type 0 where
   declaration_end : Role
   assert_end : Role
   check_end : Role
+  deriving IsSet as roles-apart
 
 -- its number
 unfoldable pub role_no : Role → ℕ
@@ -78,6 +80,7 @@ pub data Grammar : Type 0 where
   ◌then◌ : Grammar → Grammar → Grammar
   ◌either◌ : Grammar → Grammar → Grammar
   many : Grammar → Grammar
+  deriving IsSet as grammars-apart
 
 infixr 5 ◌then◌
 infixr 4 ◌either◌

@@ -1,7 +1,7 @@
 // The automaton that reads scripts byte by byte: its table, and one step of it.
 ghost use Rattle.std.specs.Prelude.{◌≡◌};
 ghost use Rattle.grammar.specs.Place.{ends};
-ghost use Rattle.grammar.specs.Automaton.{role_in, Moves, IsTable};
+ghost use Rattle.grammar.specs.Automaton.{IsTable, IsTable-prop, Moves, role_in};
 ghost use Rattle.grammar.specs.States.{grammar_of};
 
 use super::role::Role;
@@ -13,7 +13,7 @@ const END: usize = CLASSES + 1;
 
 const ROW: usize = CLASSES + 2;
 
-pub const SIZE: usize = 256 + 256 * ROW;
+const SIZE: usize = 256 + 256 * ROW;
 
 // The class of each byte, and then the rows, state by state. Written by tools/automaton; proofs/Entries tests every entry against the grammar.
 const TABLE: [u8; SIZE] = *b"\
@@ -290,11 +290,16 @@ pub struct Move {
     pub role: Role,
 }
 
+// Where each byte leads from each state, and where a text may end, by the automaton's table: what it says is so.
+#[derive(Clone, Copy)]
+pub struct Transitions {
+    bytes: [u8; SIZE],
+    ghost is_table: { IsTable bytes } by { IsTable-prop bytes },
+}
+
 // The table, to be lent to whoever reads by it.
-pub fn table() -> [u8; SIZE]
-    ensures { IsTable result }
-{
-    TABLE
+pub fn table() -> Transitions {
+    Transitions { bytes: TABLE }
 }
 
 // The role of a byte of a class at a state that has the role r: ends are `)`, digits have two classes, a symbol's bytes those from 6 on.
@@ -302,43 +307,34 @@ pub fn table() -> [u8; SIZE]
 fn role_in(r: u8, class: usize) -> u8
     ensures { result ≡ role_in r class }
 {
-    if 6 <= r {
-        if class == 5 {
-            return r;
-        }
-        return 0;
-    }
-    if class < 6 {
-        return 0;
-    }
-    if 8 <= class {
-        if 4 <= r {
-            return 0;
-        }
-    }
-    r
-}
-
-// Where the byte b leads from a state; None where it is refused.
-pub fn step(table: &[u8; SIZE], state: u8, b: u8) -> Option<Move>
-    requires { IsTable table.now }
-    ensures { Moves state b result }
-{
-    let row = 256 + state as usize * ROW;
-    let class = table[b as usize] as usize;
-    match table[row + class] {
-        0 => None,
-        to => Some(Move {
-            to,
-            role: Role::from(role_in(table[row + CLASSES], class)),
-        }),
+    match class {
+        5 if 6 <= r => r,
+        6 | 7 if r < 6 => r,
+        8.. if r < 4 => r,
+        _ => 0,
     }
 }
 
-// Whether the text may end at a state.
-pub fn may_end(table: &[u8; SIZE], state: u8) -> bool
-    requires { IsTable table.now }
-    ensures { result ≡ ends (grammar_of state) }
-{
-    table[256 + state as usize * ROW + END] == 1
+impl Transitions {
+    // Where the byte b leads from a state; None where it is refused.
+    pub fn step(&self, state: u8, b: u8) -> Option<Move>
+        ensures { Moves state b result }
+    {
+        let row = 256 + state as usize * ROW;
+        let class = self.bytes[b as usize] as usize;
+        match self.bytes[row + class] {
+            0 => None,
+            to => Some(Move {
+                to,
+                role: Role::from(role_in(self.bytes[row + CLASSES], class)),
+            }),
+        }
+    }
+
+    // Whether the text may end at a state.
+    pub fn may_end(&self, state: u8) -> bool
+        ensures { result ≡ ends (grammar_of state) }
+    {
+        self.bytes[256 + state as usize * ROW + END] == 1
+    }
 }

@@ -5,6 +5,6 @@ mod automaton;
 mod pieces;
 mod role;
 
-pub use automaton::{SIZE, may_end, table};
+pub use automaton::{Transitions, table};
 pub use pieces::{Part, START, piece_at};
 pub use role::Role;

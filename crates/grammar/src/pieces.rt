@@ -1,7 +1,7 @@
 // The pieces of a text, one after the other: the slice and the place come from the caller.
-ghost use Rattle.grammar.specs.Automaton.{IsTable, PieceAt};
+ghost use Rattle.grammar.specs.Automaton.{PieceAt};
 
-use super::automaton::{SIZE, step};
+use super::automaton::Transitions;
 use super::role::Role;
 
 // The state at which a script begins.
@@ -16,15 +16,14 @@ pub struct Part {
 }
 
 // The piece that begins at `at`, read at a state; None where the text ends there, or its next byte is refused.
-pub fn piece_at(text: &[u8], at: usize, state: u8, table: &[u8; SIZE]) -> Option<Part>
-    requires { IsTable table.now }
+pub fn piece_at(text: &[u8], at: usize, state: u8, table: &Transitions) -> Option<Part>
     ensures { PieceAt text.now at state result }
 {
-    let first = step(table, state, *text.get(at)?)?;
+    let first = table.step(state, *text.get(at)?)?;
     let role = first.role;
     let mut s = first.to;
     for i in at + 1..text.len() {
-        match step(table, s, text[i]) {
+        match table.step(s, text[i]) {
             Some(next) if next.role == role => s = next.to,
             _ => return Some(Part {
                 role,

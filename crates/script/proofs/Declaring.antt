@@ -1,18 +1,21 @@
 -- The words that stand in a text between places, the event of a word among them, and one word more. Assumes nothing.
-use mathlib.Core.Path.{◌≡◌, sym, ap, ◌∙◌}
-use mathlib.Core.Bool.{Bool, true, false, not}
-use mathlib.Core.List.{List, ◌∷◌}
+use mathlib.Core.Path.{refl, ◌≡◌, sym, ap, ◌∙◌}
+use mathlib.Core.Bool.{Bool, true, false, cond, not}
+use mathlib.Core.List.{List}
 use mathlib.Core.Logic.{⊎_elim}
-use Prim.Native.Nat.{ℕ, ◌+◌, ◌≤◌, ◌<◌}
-use native.Mathlib.Numerals.{add-one}
+use Prim.Native.Nat.{ℕ, suc, ◌+◌, ◌≤◌, ◌<◌}
 use native.Mathlib.Omega.{arith}
 use borrow.Author.Tests.{lt-ltb, le-ltb, lt-leb, le-leb}
-use lib.Dec.{leb, ltb}
-use lib.ListN.{length, get_or, take, drop, drop_of_length-le}
-use lib.Seq.{drop-cons, length-take-le}
-use Rattle.std.proofs.Common.{map, Option, Some, None, add-zero, zero-add}
+use lib.Dec.{eqb, leb, ltb}
+use lib.Pointwise.{pointwise}
+use lib.ListN.{length, take}
+use lib.Seq.{length-take-le}
+use Rattle.std.proofs.Common.{map, Option, Some, None}
 use Rattle.std.specs.Option.{is_some}
-use Rattle.std.proofs.lemmas.List.{length-map, drop-map}
+use Rattle.std.specs.List.{position, position_or_len}
+use Rattle.std.proofs.lemmas.List.Recursion.{is_position_or_len}
+use Rattle.std.proofs.lemmas.List.Sums.{prefix_len-le-length}
+use Rattle.std.proofs.lemmas.List.{length-map}
 use Rattle.laws.proofs.Order.{lt-or-ge}
 use Rattle.laws.proofs.Tests.{never}
 use Rattle.meaning.specs.Limits.{most_events}
@@ -20,39 +23,35 @@ use Rattle.script.specs.declared.names.Names.{Names}
 use Rattle.script.specs.declared.names.Span.{Span}
 use Rattle.script.specs.Words.{event_of, is_kept, is_new, most_characters}
 use Rattle.script.specs.Notes.{word_at, names_of, Finds}
-use Rattle.script.proofs.Wording.{same-word, other_word}
+use Rattle.script.proofs.Wording.{compared}
 
 -- ---- how many names
 pub names-count : (text : List ℕ) (names : Names) → names.n ≤ most_events → length names.spans ≡ most_events → length (names_of text names) ≡ names.n
 names-count text names few s = length-map (take names.n names.spans) (word_at text) ∙ length-take-le names.n names.spans (omega arith)
 
 -- ---- the event of a word
--- none of the first i names is the word
-pub record Past (names : List (List ℕ)) (w : List ℕ) (i : ℕ) : Type 0 where
-  pub event : event_of names w ≡ i + event_of (drop i names) w
+-- the first of the spans at which the word stands, if there is one, is its event
+module _ (text : List ℕ) (w : List ℕ) where
+  abbrev stands : Span → Bool
+  stands s = pointwise eqb (word_at text s) w
 
-pub none-past : (names : List (List ℕ)) (w : List ℕ) → Past names w 0
-none-past names w = record { event = sym (zero-add (event_of names w)) }
-
-module _ (text : List ℕ) (spans : List Span) (w : List ℕ) (i : ℕ) where
-  abbrev names : List (List ℕ)
-  names = map (word_at text) spans
-
-  module _ (h : i < length spans) (nowhere : Span) where
-    next-name : drop i names ≡ word_at text (get_or spans i nowhere) ∷ drop (i + 1) names
-    next-name = rw (drop-map (word_at text) i spans, drop-map (word_at text) (i + 1) spans, drop-cons spans i nowhere, add-one i)
-
-    pub event-here : Past names w i → word_at text (get_or spans i nowhere) ≡ w → event_of names w ≡ i
-    unfolding event_of
-    event-here p q = p.event ∙ rw (next-name, same-word _ w q) (add-zero i)
-
-    pub event-later : Past names w i → (word_at text (get_or spans i nowhere) ≡ w → ⊥) → Past names w (i + 1)
-    unfolding event_of
-    event-later p d = record { event = p.event ∙ rw (next-name, other_word _ w d) (omega arith) }
-
-  pub event-end : Past names w i → length spans ≡ i → event_of names w ≡ length names
+  first-event : (spans : List Span) → event_of (map (word_at text) spans) w ≡ position_or_len stands spans
   unfolding event_of
-  event-end p h = let all : length names ≡ i = length-map spans (word_at text) ∙ h in p.event ∙ rw (drop_of_length-le names {i = i} (omega arith)) (add-zero i ∙ sym all)
+  first-event spans =
+      is_position_or_len (λ (l : List Span). event_of (map (word_at text) l) w) stands refl
+      (λ s l.
+      let n = event_of (map (word_at text) l) w in
+      let more : suc n ≡ 1 + n = omega arith in
+      ap (λ (t : Bool). cond t 0 (suc n)) (sym (compared (word_at text s) w)) ∙ ap (λ (k : ℕ). cond (stands s) 0 k) more)
+      spans
+
+  pub event-first : (spans : List Span) → Finds (map (word_at text) spans) w (position stands spans)
+  event-first spans =
+      let many = length-map spans (word_at text) in
+      let e = first-event spans in
+      ⊎_elim (λ h. rw (lt-ltb (position_or_len stands spans) (length spans) h) (e, omega (arith, many)))
+      (λ h. rw (le-ltb (position_or_len stands spans) (length spans) h) (omega (arith, many, e, prefix_len-le-length (λ s. not (stands s)) spans)))
+      (lt-or-ge (position_or_len stands spans) (length spans))
 
 -- ---- whether a word is new
 not-ltb : (a b : ℕ) → not (ltb a b) ≡ leb b a

@@ -10,7 +10,7 @@ use lib.Dec.{T, eqb, eqb→eq}
 use lib.Pointwise.{pointwise}
 use Rattle.std.specs.List.{list_any}
 use Rattle.std.specs.Prelude.{map, ◌||◌}
-use Rattle.laws.proofs.Tests.{is_false, never}
+use Rattle.laws.proofs.Tests.{is_false}
 use Rattle.grammar.specs.Grammar.{bytes}
 use Rattle.script.specs.Words.{same_word, one_of}
 
@@ -37,18 +37,15 @@ same-word a b e = subst (λ (w : List ℕ). same_word a w ≡ true) e (same_self
 pub other_word : (a b : List ℕ) → (a ≡ b → ⊥) → same_word a b ≡ false
 other_word a b d = is_false (same_word a b) (λ t. d (equal_of a b t))
 
--- a test that is true of equal words and was false tells two words apart
-pub apart_by : {r : Bool} {a b : List ℕ} → r ≡ false → (a ≡ b → r ≡ true) → a ≡ b → ⊥
-apart_by n f e = let y = f e in never (cc)
-
--- ---- the kept words, as the code has them
-compared : (a b : List ℕ) → pointwise eqb a b ≡ same_word a b
+-- as the code compares them
+pub compared : (a b : List ℕ) → pointwise eqb a b ≡ same_word a b
 unfolding same_word
 compared [] [] = refl
 compared [] (y ∷ b) = refl
 compared (x ∷ a) [] = refl
 compared (x ∷ a) (y ∷ b) = ap (λ (t : Bool). eqb x y && t) (compared a b)
 
+-- ---- the kept words, as the code has them
 pub any-one : (words : List String) (w : List ℕ) → list_any (λ v. pointwise eqb v w) (map bytes words) ≡ one_of words w
 unfolding one_of
 any-one [] w = refl

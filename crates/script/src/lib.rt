@@ -29,6 +29,7 @@ pub struct Script {
     pub rules: Rules,
 }
 
+// What the two ask is no ghost field: `Script.told` makes a Script of whatever was read, and of a whole script `script-within` gives it.
 impl Script {
     // The triples of its alternatives.
     pub fn triples(&self) -> &[i32]
@@ -47,7 +48,8 @@ impl Script {
     }
 }
 
-// Why a script is refused, and the place of the byte where it is; only a text that does not go on has a place, and the others 0.
+// Why a script is refused, and the place of the byte where it is; only a text that does not go on has a place, and the others 0,
+// no Option, as `Script.told` and `refusal-placed` (proofs/Faults) have it.
 #[derive(Clone, Copy, PartialEq, Eq)]
 pub struct Refused {
     pub refusal: Refusal,

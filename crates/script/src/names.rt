@@ -87,6 +87,19 @@ pub struct Names {
     pub spans: [Span; EVENTS],
 }
 
+impl Names {
+    // The names with one more, which stands in the text there.
+    pub fn with_name(self, name: Span) -> Names
+        requires { self.n < most_events }
+        ensures { Gains self name result }
+    {
+        let mut more = self;
+        more.spans[self.n] = name;
+        more.n += 1;
+        more
+    }
+}
+
 // Whether the word is reserved in SMT-LIB, or a word of the subset.
 fn is_kept(word: &[u8]) -> bool
     ensures { result ≡ is_kept word.now }
@@ -99,12 +112,10 @@ pub fn event_of(text: &[u8], names: Names, word: &[u8]) -> Option<u8>
     requires { Within text.now names }
     ensures { Finds (names_of text.now names) word.now result }
 {
-    for (event, name) in names.spans[..names.n].iter().enumerate() {
-        if name.word(text) == word {
-            return Some(event as u8);
-        }
-    }
-    None
+    names.spans[..names.n]
+        .iter()
+        .position(|name| name.word(text) == word)
+        .map(|event| event as u8)
 }
 
 // Whether the word may be declared: short enough, no kept word, and no name yet.
@@ -113,15 +124,4 @@ pub fn is_new(text: &[u8], names: Names, word: &[u8]) -> bool
     ensures { result ≡ is_new (names_of text.now names) word.now }
 {
     word.len() <= CHARACTERS && !is_kept(word) && event_of(text, names, word).is_none()
-}
-
-// The names with one more, which stands in the text there.
-pub fn with_name(names: Names, name: Span) -> Names
-    requires { names.n < most_events }
-    ensures { Gains names name result }
-{
-    let mut more = names;
-    more.spans[names.n] = name;
-    more.n += 1;
-    more
 }

@@ -8,7 +8,7 @@ use super::names::{Names, Span};
 use super::reading::{Notes, read_piece};
 use super::rules::no_rules;
 use super::{Refused, Script};
-use grammar::{START, may_end, piece_at, table};
+use grammar::{START, piece_at, table};
 use meaning::Refusal;
 use problem::EVENTS;
 
@@ -54,7 +54,7 @@ pub fn script_from(text: &[u8], at: usize) -> Result<Script, Refused>
         from = part.to;
         state = part.state;
     }
-    if from < text.len() || !may_end(&table, state) {
+    if from < text.len() || !table.may_end(state) {
         return Err(Refused {
             refusal: Refusal::Script,
             place: from,

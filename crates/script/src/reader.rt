@@ -12,7 +12,7 @@ pub struct Reader<'a> {
     pub at: usize,
 }
 
-// A reader at the script's first byte.
+// A reader at the script's first byte. It and `read` are functions, not methods, as docs/CLAIMS.md names them.
 pub fn begun<'a>(script: &'a [u8]) -> Reader<'a>
     ensures { (result.script ≡ script.entry) × (result.at ≡ 0) }
 {

@@ -7,8 +7,8 @@ ghost use Rattle.script.specs.Reading.{signed, with_new, is_again, with_event, w
 ghost use Rattle.script.specs.Notes.{word_at, noted, Ready, Took, Makes};
 
 use super::Refused;
-use super::names::{Names, Span, event_of, is_new, with_name};
-use super::rules::{Rules, with_alternative, with_clause};
+use super::names::{Names, Span, event_of, is_new};
+use super::rules::Rules;
 use dialogue::unsigned_of;
 use grammar::Role;
 use meaning::Refusal;
@@ -18,6 +18,8 @@ use problem::{ALTERNATIVES, CLAUSES, EVENTS};
 const BOUND: u32 = problem::BOUND as u32;
 
 // What was read so far: the names, where the name of the open declaration stands, the events of the open atom, and the rules.
+// The text, a piece of it and these notes stay three parameters: the text is lent once and the notes change with each piece, so a struct of
+// them would be made anew for each of the four functions that take them.
 #[derive(Clone, Copy)]
 pub struct Notes {
     pub names: Names,
@@ -98,7 +100,9 @@ fn bound(text: &[u8], numeral: Span, negated: bool, notes: Notes) -> Result<Note
     let Some(value) = unsigned_of(numeral.word(text), BOUND) else {
         return Err(Refusal::Bound.into());
     };
-    let rules = with_alternative(notes.rules, notes.x, notes.y, bound_of(value, negated));
+    let rules = notes
+        .rules
+        .with_alternative(notes.x, notes.y, bound_of(value, negated));
     Ok(Notes { rules, ..notes })
 }
 
@@ -109,7 +113,7 @@ fn declaration_end(notes: Notes) -> Result<Notes, Refused>
     if EVENTS <= notes.names.n {
         return Err(Refusal::Events.into());
     }
-    let names = with_name(notes.names, notes.new);
+    let names = notes.names.with_name(notes.new);
     Ok(Notes { names, ..notes })
 }
 
@@ -123,7 +127,7 @@ fn assert_end(notes: Notes) -> Result<Notes, Refused>
     if ALTERNATIVES < notes.rules.alternatives {
         return Err(Refusal::Triples.into());
     }
-    let rules = with_clause(notes.rules);
+    let rules = notes.rules.with_clause();
     Ok(Notes { rules, ..notes })
 }
 

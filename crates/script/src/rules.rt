@@ -30,30 +30,32 @@ pub fn no_rules() -> Rules
     }
 }
 
-// One alternative more. One past the 64th is only counted: its assert will be refused.
-pub fn with_alternative(rules: Rules, x: u8, y: u8, c: i32) -> Rules
-    requires { rules.alternatives < 2 ^ 63 }
-    ensures { Adds rules x y c result }
-{
-    let mut more = rules;
-    let at = rules.alternatives;
-    more.alternatives += 1;
-    if ALTERNATIVES <= at {
-        return more;
+impl Rules {
+    // One alternative more. One past the 64th is only counted: its assert will be refused.
+    pub fn with_alternative(self, x: u8, y: u8, c: i32) -> Rules
+        requires { self.alternatives < 2 ^ 63 }
+        ensures { Adds self x y c result }
+    {
+        let mut more = self;
+        let at = self.alternatives;
+        more.alternatives += 1;
+        if ALTERNATIVES <= at {
+            return more;
+        }
+        more.triples[at * 3] = x as i32;
+        more.triples[at * 3 + 1] = y as i32;
+        more.triples[at * 3 + 2] = c;
+        more
     }
-    more.triples[at * 3] = x as i32;
-    more.triples[at * 3 + 1] = y as i32;
-    more.triples[at * 3 + 2] = c;
-    more
-}
 
-// One clause more: the alternatives since the last.
-pub fn with_clause(rules: Rules) -> Rules
-    requires { (rules.clauses < most_clauses) × (rules.alternatives ≤ most_alternatives) }
-    ensures { Ends rules result }
-{
-    let mut more = rules;
-    more.counts[rules.clauses] = rules.alternatives as u32;
-    more.clauses += 1;
-    more
+    // One clause more: the alternatives since the last.
+    pub fn with_clause(self) -> Rules
+        requires { (self.clauses < most_clauses) × (self.alternatives ≤ most_alternatives) }
+        ensures { Ends self result }
+    {
+        let mut more = self;
+        more.counts[self.clauses] = self.alternatives as u32;
+        more.clauses += 1;
+        more
+    }
 }

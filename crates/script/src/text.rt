@@ -1,5 +1,5 @@
 // The parts of a problem's text, each written where the writer is.
-ghost use Rattle.std.specs.Prelude.{◌≡◌, map, ◌/◌, T, nat_abs, length};
+ghost use Rattle.std.specs.Prelude.{map, ◌/◌, T, nat_abs, length};
 ghost use Rattle.meaning.specs.Screen.{alternatives, clauses_of, stepped};
 ghost use Rattle.problem.specs.Reads.{given};
 ghost use Rattle.dialogue.specs.Written.{led};
@@ -30,7 +30,7 @@ fn put_declarations(out: &mut Writer, n: u32)
     ensures { Puts out.old out.new (declarations_from 0 n) }
 {
     for e in 0..n {
-        put_declaration(out, e as u64);
+        put_declaration(out, u64::from(e));
     }
 }
 
@@ -38,7 +38,7 @@ fn put_declarations(out: &mut Writer, n: u32)
 fn put_bound(out: &mut Writer, c: i32)
     ensures { Puts out.old out.new (bound_of c) }
 {
-    let value = c.unsigned_abs() as u64;
+    let value = u64::from(c.unsigned_abs());
     if c < 0 {
         out.put(b"(- ");
         out.put_number(value);
@@ -53,9 +53,9 @@ fn put_atom(out: &mut Writer, x: i32, y: i32, c: i32)
     ensures { Puts out.old out.new (atom_of (nat_abs x) (nat_abs y) c) }
 {
     out.put(b"(<= (- ");
-    put_name(out, x.unsigned_abs() as u64);
+    put_name(out, u64::from(x.unsigned_abs()));
     out.put(b" ");
-    put_name(out, y.unsigned_abs() as u64);
+    put_name(out, u64::from(y.unsigned_abs()));
     out.put(b") ");
     put_bound(out, c);
     out.put(b")")

@@ -1,12 +1,11 @@
 -- `script::script_from` meets its contract: what remains, read from what was read, gives the same answer. Assumes nothing.
 use Prim.Native.Nat.{◌-◌}
 use lib.ListN.{length}
-use Rattle.grammar.specs.Automaton.{IsTable}
 use Rattle.script.proofs.Going.{Going}
 use Rattle.script.proofs.plain.script_from.Given as goal
 
 abbrev pub invariant-loop-part : goal.invariant-loop-part
-invariant-loop-part l = IsTable l.table × Going l.text l.at l.from l.state l.notes
+invariant-loop-part l = Going l.text l.at l.from l.state l.notes
 
 abbrev pub decreases-loop-part : goal.decreases-loop-part
 decreases-loop-part l = length l.text - l.from

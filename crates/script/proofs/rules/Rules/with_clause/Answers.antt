@@ -1,4 +1,4 @@
--- `script::with_clause` meets its contract: the count stands in the first place left. Assumes nothing.
+-- `script::Rules::with_clause` meets its contract: the count stands in the first place left. Assumes nothing.
 use mathlib.Core.Path.{refl, sym, ap, ◌∙◌}
 use mathlib.Core.List.{List}
 use Prim.Native.Nat.{ℕ, ◌<◌}
@@ -6,11 +6,11 @@ use native.Mathlib.Omega.{arith}
 use lib.ListN.{set, length-append}
 use Rattle.meaning.specs.Limits.{most_clauses}
 use Rattle.script.proofs.Fitting.{one-fitted}
-use Rattle.script.proofs.rules.with_clause.Goals as goal
+use Rattle.script.proofs.rules.Rules.with_clause.Goals as goal
 
 pub returns : goal.returns
 returns c =
-    let r = c.args.rules in
+    let r = c.args.self in
     let room : r.clauses < most_clauses = omega arith in
     record {
       same-many = refl;

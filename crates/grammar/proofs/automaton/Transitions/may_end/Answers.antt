@@ -1,4 +1,4 @@
--- `grammar::may_end` meets its contract. Assumes nothing.
+-- `grammar::Transitions::may_end` meets its contract. Assumes nothing.
 use mathlib.Core.Path.{◌≡◌, refl, ap, ◌∙◌}
 use mathlib.Core.Bool.{Bool, true, false}
 use Prim.Native.Nat.{ℕ}
@@ -7,7 +7,7 @@ use lib.Dec.{eqb}
 use Rattle.grammar.specs.Place.{ends}
 use Rattle.grammar.specs.States.{grammar_of}
 use Rattle.grammar.specs.Automaton.{end_no}
-use Rattle.grammar.proofs.automaton.may_end.Goals as goal
+use Rattle.grammar.proofs.automaton.Transitions.may_end.Goals as goal
 
 is_one : (b : Bool) → eqb (end_no b) 1 ≡ b
 is_one true = refl
@@ -16,4 +16,4 @@ is_one false = refl
 pub returns : goal.returns
 returns c =
     let s = c.args.state in
-    ap (λ (x : ℕ). eqb x 1) (c.requires.ending s (omega arith)) ∙ is_one (ends (grammar_of s))
+    ap (λ (x : ℕ). eqb x 1) (c.args.self.now.is_table.ending s (omega arith)) ∙ is_one (ends (grammar_of s))

@@ -25,24 +25,25 @@ use Rattle.script.proofs.Rereading.{text-answered}
 
 -- ---- of texts
 module _ (l : Lent) (taken : problem_refusal l ≡ 0) where
-  -- the text is a script
-  pub text-script : (s : Script) × (script_in (text_of l) ≡ Ok s) × (lent_in s ≡ l)
-  text-script = let a = text-answered l taken in let s = script-said (text_of l) 0 a.0 a.1 in (s.0, s.1, s.2 ∙ a.2)
-
   -- "reading it gives the same problem"
-  pub text-taken : is_ok (script_in (text_of l)) ≡ true
-  text-taken = rw text-script.1
+  pub text-read : (s : Script) × (script_in (text_of l) ≡ Ok s) × (lent_in s ≡ l)
+  text-read = let a = text-answered l taken in let s = script-said (text_of l) 0 a.0 a.1 in (s.0, s.1, s.2 ∙ a.2)
 
-  pub text-read : (s : Script) → script_in (text_of l) ≡ Ok s → lent_in s ≡ l
-  text-read s e = ap lent_in (script-one (sym e ∙ text-script.1)) ∙ text-script.2
+  -- so the text is a script
+  pub text-taken : is_ok (script_in (text_of l)) ≡ true
+  text-taken = rw text-read.1
 
   -- "and writing that gives the same bytes"
-  pub text-again : (s : Script) → script_in (text_of l) ≡ Ok s → text_of (lent_in s) ≡ text_of l
-  text-again s e = ap text_of (text-read s e)
+  pub text-again : (s : Script) × (script_in (text_of l) ≡ Ok s) × (text_of (lent_in s) ≡ text_of l)
+  text-again = let r = text-read in (r.0, r.1, ap text_of r.2)
+
+  -- whatever it is read as is the problem
+  read-as : (s : Script) → script_in (text_of l) ≡ Ok s → lent_in s ≡ l
+  read-as s e = ap lent_in (script-one (sym e ∙ text-read.1)) ∙ text-read.2
 
 -- "two different accepted problems never give the same text": each is what its text is read as
 pub texts-apart : (l k : Lent) → problem_refusal l ≡ 0 → problem_refusal k ≡ 0 → text_of l ≡ text_of k → l ≡ k
-texts-apart l k p q e = let r = text-script l p in sym r.2 ∙ text-read k q r.0 (ap script_in (sym e) ∙ r.1)
+texts-apart l k p q e = let r = text-read l p in sym r.2 ∙ read-as k q r.0 (ap script_in (sym e) ∙ r.1)
 
 -- ---- of calls
 -- two results allowed for one call are the same
@@ -75,14 +76,13 @@ wrote l room k held w = by-refusal (problem_refusal l) refl (leb (length (text_o
 
 -- what a call has written is read as the problem that it was given
 pub written_read : (l : Lent) (room k : ℕ) (held : List ℕ) → Writes l room (Ok k) held → (s : Script) × (script_in (take k held) ≡ Ok s) × (lent_in s ≡ l)
-written_read l room k held w = let f = wrote l room k held w in rw f.front (text-script l f.taken)
+written_read l room k held w = let f = wrote l room k held w in rw f.front (text-read l f.taken)
 
 -- and a call with what was read leaves the same
-pub written-again : (l : Lent) (room k : ℕ) (held : List ℕ) (b : Result ℕ Refusal) (t : List ℕ) (s : Script) → Writes l room (Ok k) held → script_in (take k held) ≡ Ok s → Writes (lent_in s) room b t → (b ≡ Ok k) × (t ≡ held)
-written-again l room k held b t s w e v =
+pub written-again : (l : Lent) (room k : ℕ) (held : List ℕ) (b : Result ℕ Refusal) (t : List ℕ) → Writes l room (Ok k) held → (s : Script) × (script_in (take k held) ≡ Ok s) × (Writes (lent_in s) room b t → (b ≡ Ok k) × (t ≡ held))
+written-again l room k held b t w =
     let r = written_read l room k held w in
-    let is : lent_in s ≡ l = ap lent_in (script-one (sym e ∙ r.1)) ∙ r.2 in
-    writes-same (rw is at v) w
+    (r.0, r.1, λ v. writes-same (rw r.2 at v) w)
 
 -- a room of `longest_text` bytes is enough for every accepted problem
 pub room-enough : (l : Lent) (room : ℕ) (a : Result ℕ Refusal) (held : List ℕ) → problem_refusal l ≡ 0 → longest_text ≤ room → Writes l room a held → a ≡ Ok (length (text_of l))

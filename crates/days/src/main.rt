@@ -27,6 +27,9 @@ const MANY_ROWS: usize = (EVENTS + 2) * ROW;
 // The numbers of an arc for each of so many events.
 const NUMBERS: usize = 3 * EVENTS;
 
+// The allowance of 01's days.
+const ALLOWANCE: u32 = 1000;
+
 // A reply at its longest.
 const REPLY: usize = 4096;
 
@@ -69,17 +72,17 @@ fn show_in(name: &[u8], n: u32, triples: &[i32], counts: &[u32], allowance: u32)
 
 // A day with room for a byte less than three rows.
 fn show_tight(name: &[u8], n: u32, triples: &[i32], counts: &[u32]) {
-    show_lent::<TIMES, PICKS, TIGHT>(name, n, triples, counts, 1000);
+    show_lent::<TIMES, PICKS, TIGHT>(name, n, triples, counts, ALLOWANCE);
 }
 
 // A day of as many events as there may be.
 fn show_many(name: &[u8], triples: &[i32], counts: &[u32]) {
-    show_lent::<MANY_TIMES, MANY_PICKS, MANY_ROWS>(name, EVENTS as u32, triples, counts, 1000);
+    show_lent::<MANY_TIMES, MANY_PICKS, MANY_ROWS>(name, EVENTS as u32, triples, counts, ALLOWANCE);
 }
 
 // A day with the allowance of 01's days.
 fn show(name: &[u8], n: u32, triples: &[i32], counts: &[u32]) {
-    show_in(name, n, triples, counts, 1000);
+    show_in(name, n, triples, counts, ALLOWANCE);
 }
 
 // D1 to D4.
@@ -145,11 +148,11 @@ fn days_of_reasons() {
 fn put_ahead(triples: &mut [i32], counts: &mut [u32], c: i32)
     requires { (length triples.old ≡ 3 * length counts.old) × (length counts.old ≤ most_events) }
 {
-    for e in 0..counts.len() {
-        triples[3 * e] = e as i32;
-        triples[3 * e + 1] = (e + 1) as i32;
-        triples[3 * e + 2] = c;
-        counts[e] = e as u32 + 1;
+    for (e, (triple, count)) in triples.chunks_exact_mut(3).zip(counts).enumerate() {
+        triple[0] = e as i32;
+        triple[1] = e as i32 + 1;
+        triple[2] = c;
+        *count = e as u32 + 1;
     }
 }
 
@@ -164,7 +167,7 @@ fn days_with_12() {
     let bounded = [0, 1, 100001, 1, 1, 0];
     show(b"12 with 6", 2, &bounded, &two);
     show_in(b"12 with 7", 2, &alone, &one, 1000001);
-    show_lent::<1, PICKS, ROW>(b"12 with 8", 2, &alone, &one, 1000);
+    show_lent::<1, PICKS, ROW>(b"12 with 8", 2, &alone, &one, ALLOWANCE);
 }
 
 // As many events as there may be: without a clause; in a chain, each 100,000 minutes before the next; in a ring, none after the next, and the

@@ -10,7 +10,7 @@ const FIELD: u32 = 0x80_0000;
 
 const ONES: u32 = 255;
 
-// The binary32 number that has these bits; NaN for every NaN's.
+// The binary32 number that has these bits; all NaNs' bits give the one NaN. They are told by hand, as `f32::from_bits` asks for bits of none.
 pub fn float_of(bits: u32) -> f32
     ensures { result ≡ of_bits binary32 bits }
 {

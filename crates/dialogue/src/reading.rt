@@ -1,4 +1,5 @@
-// Reading: the words of a line, the numbers that words spell, and lists of numbers into lent memory.
+// Reading: the words of a line, the numbers that words spell, and lists of numbers into lent memory. A line and a place in it are handed on,
+// and no cursor kept: that would owe a clause of where it stands after a None, and no caller reads on there.
 ghost use Rattle.std.specs.Prelude.{◌≡◌, ◌≤◌, ℕ, List, [], Option, None, max, length, position, ◌==◌};
 ghost use Rattle.dialogue.specs.Words.{place_of, word_at, after_word, with_place, unsigned_of, signed_of, unsigned_empty, signed_empty};
 ghost use Rattle.dialogue.specs.Lists.{after_list, list_from};
@@ -53,7 +54,7 @@ fn first_of(text: &[u8], stop: u8) -> Option<usize>
     text.iter().position(|&b| b == stop)
 }
 
-// The first place of text from `at` on where `stop` stands, or the end.
+// The first place of text from `at` on where `stop` stands, or the end: every caller goes on from there, so it is no Option (`place_of`).
 pub fn until(text: &[u8], at: usize, stop: u8) -> usize
     ensures value { result ≡ place_of stop text.now at }
     ensures lower_bound { (at ≤ result) × (result ≤ max at (length text.now)) }
@@ -127,7 +128,7 @@ pub fn number_at(line: &[u8], at: usize, most: u32) -> Option<(u32, usize)>
     Some((value, place))
 }
 
-// The signed number, and the place after it.
+// The signed number, and the place after it. A name of its own, as docs/CLAIMS.md states its claim beside `number_at`.
 pub fn signed_at(line: &[u8], at: usize) -> Option<(i32, usize)>
     ensures { result ≡ with_place (after_word line.now at) (signed_of (word_at line.now at)) }
 {

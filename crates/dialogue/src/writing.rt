@@ -23,7 +23,7 @@ impl Decimal for u32 {
     ghost decimal = { decimal };
 
     fn put_decimal(self, w: &mut Writer) {
-        w.put_number(self as u64)
+        w.put_number(u64::from(self))
     }
 }
 
@@ -31,7 +31,7 @@ impl Decimal for u8 {
     ghost decimal = { decimal };
 
     fn put_decimal(self, w: &mut Writer) {
-        w.put_number(self as u64)
+        w.put_number(u64::from(self))
     }
 }
 

@@ -114,7 +114,7 @@ pub fn put_panel(reply: &mut Writer, panel: Panel)
     reply.put_list(&panel.each)
 }
 
-// A slider's bound, or the refusal's number.
+// A slider's bound, or the refusal's number: a byte, as each refusal of a reply, so that every byte can be told.
 pub fn put_bound(reply: &mut Writer, answer: Result<i32, u8>)
     ensures { Puts reply.old reply.new (bound_text answer) }
 {

@@ -6,9 +6,6 @@ ghost use Rattle.exchange.specs.Requests.{count_at, list_at, filled_at, lists_at
 
 use dialogue::Spelled;
 
-// The largest unsigned 32-bit number.
-const ANY: u32 = u32::MAX;
-
 // How many numbers a problem's two lists hold.
 #[derive(Clone, Copy)]
 pub struct Lists {
@@ -48,7 +45,7 @@ pub fn count_at(line: &[u8], at: usize, most: usize) -> Option<(usize, usize)>
     ensures value { result ≡ count_at line.now at most }
     ensures within { IfSome result (λ r. r.0 ≤ most) }
 {
-    let (value, place) = dialogue::number_at(line, at, ANY)?;
+    let (value, place) = dialogue::number_at(line, at, u32::MAX)?;
     let count = value as usize;
     if most < count {
         return None;
@@ -99,8 +96,8 @@ pub fn head_at(
     ensures value { result ≡ head_at line.now at most_times most_picks most_reasons }
     ensures within { IfSome result (λ r. (r.0.timetable ≤ most_times) × (r.0.picks ≤ most_picks) × (r.0.reasons ≤ most_reasons)) }
 {
-    let (n, place) = dialogue::number_at(line, at, ANY)?;
-    let (allowance, place) = dialogue::number_at(line, place, ANY)?;
+    let (n, place) = dialogue::number_at(line, at, u32::MAX)?;
+    let (allowance, place) = dialogue::number_at(line, place, u32::MAX)?;
     let (timetable, place) = count_at(line, place, most_times)?;
     let (picks, place) = count_at(line, place, most_picks)?;
     let (reasons, end) = count_at(line, place, most_reasons)?;
@@ -129,7 +126,7 @@ pub fn asked_at(line: &[u8], at: usize, most_times: usize) -> Option<(Asked, usi
     ensures value { result ≡ asked_at line.now at most_times }
     ensures within { IfSome result (λ r. r.0.timetable ≤ most_times) }
 {
-    let (n, place) = dialogue::number_at(line, at, ANY)?;
+    let (n, place) = dialogue::number_at(line, at, u32::MAX)?;
     let (turned, place) = dialogue::number_at(line, place, 1)?;
     let (fact, place) = fact_at(line, place)?;
     let (timetable, end) = count_at(line, place, most_times)?;

@@ -27,7 +27,7 @@ pub use standing::{add_fact, add_fact_to, fresh_day, read_day};
 // The largest allowance.
 const ALLOWANCE: u32 = 1000000;
 
-// What a timetable that is none, and picks and reasons past their ends, are filled with.
+// What a timetable that is none, and picks and reasons past their ends, are filled with: the papers' numbers (`Screen.cleared`).
 const NO_TIME: i32 = 1;
 
 const BLANK: u8 = 255;

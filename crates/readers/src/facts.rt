@@ -7,7 +7,7 @@ use problem::ALTERNATIVES;
 // How many numbers the buffer of a standing's facts holds.
 const PLACES: usize = ALTERNATIVES + 1;
 
-// The facts as the numbers of their arcs, the newest first, from a place of the buffer on.
+// The facts as the numbers of their arcs, the newest first, from a place of the buffer on. An array with its place beside it: there is no heap.
 #[derive(Clone, Copy)]
 pub struct Facts {
     buffer: [u8; PLACES],

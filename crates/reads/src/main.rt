@@ -1,6 +1,7 @@
 // Prints what the two readers say of the worked days' lists and timetables, and of lists and timetables that are wrong in one place, one to a line.
 #![tactic(auto)]
 
+use dialogue::Writer;
 use meaning::Verdict;
 use problem::{EVENTS, ROW};
 
@@ -9,22 +10,18 @@ const THREE_ROWS: usize = 3 * ROW;
 
 const ROOM: usize = THREE_ROWS + 4;
 
+// What is said at its longest.
+const SAID: usize = 16;
+
 // Writes what was read and what was said of it.
 fn show(asked: &[u8], said: Verdict) {
+    let mut room = [0; SAID];
+    let mut text = Writer::new(&mut room);
+    exchange::put_verdict(&mut text, said);
     io::write_all(1, asked);
-    match said {
-        Verdict::Yes => {
-            io::write_all(1, b": yes\n");
-        }
-        Verdict::No => {
-            io::write_all(1, b": no\n");
-        }
-        Verdict::Refused { number } => {
-            io::write_all(1, b": refused ");
-            io::print_decimal(1, number as u64);
-            io::write_all(1, b"\n");
-        }
-    }
+    io::write_all(1, b": ");
+    io::write_all(1, text.text());
+    io::write_all(1, b"\n");
 }
 
 // Shows a list against two alternatives between events 0 and 1, (0, 1, c) and (1, 0, d), a clause each.

@@ -25,7 +25,7 @@ pub enum Saying {
     TooLong,
 }
 
-// What is said of an answer of `plan`.
+// What is said of an answer of `plan`. It tells a refusal's number, as the screen does, and no place.
 #[tactic(auto, unfolding(crate::specs::Says::of_answer))]
 fn saying_of(answer: Answer) -> Saying
     ensures { result ≡ of_answer answer }

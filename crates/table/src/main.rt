@@ -14,7 +14,7 @@ const STANDARD_OUTPUT: i32 = 1;
 // The most bytes that one read asks for.
 const BLOCK: usize = 65536;
 
-// The memory that is lent to a request: the lengths are the limits of its counts.
+// The memory that is lent to a request: the lengths are the limits of its counts. It is fixed: there is no heap.
 #[derive(Drop)]
 struct Lent {
     triples: [i32; 256],

@@ -15,9 +15,6 @@ use script::{Refused, Script};
 use slider::{Kind, Travel, Use};
 use standing::{Day, ENTRIES};
 
-// The largest unsigned 32-bit number.
-const ANY: u32 = u32::MAX;
-
 // What lent memory is filled with before a call.
 const FILL: u8 = 7;
 
@@ -32,7 +29,7 @@ fn line_ends(line: &[u8], at: usize) -> Option<()> {
 fn problem_at(line: &[u8], at: usize, lent: &mut Lent) -> Option<(u32, Lists, usize)>
     ensures { IfSome result (λ r. (r.1.triples ≤ 256) × (r.1.counts ≤ 64)) }
 {
-    let (n, place) = number_at(line, at, ANY)?;
+    let (n, place) = number_at(line, at, u32::MAX)?;
     let (lists, end) = lists_at(line, place, &mut lent.triples, &mut lent.counts)?;
     Some((n, lists, end))
 }
@@ -138,9 +135,9 @@ pub(crate) fn lamps(line: &[u8], at: usize, lent: &mut Lent, reply: &mut Writer)
 // slide KIND A B POSITION USE
 pub(crate) fn slide(line: &[u8], at: usize, reply: &mut Writer) -> Option<()> {
     let (kind, place) = number_at(line, at, 2)?;
-    let (a, place) = number_at(line, place, ANY)?;
-    let (b, place) = number_at(line, place, ANY)?;
-    let (position, place) = number_at(line, place, ANY)?;
+    let (a, place) = number_at(line, place, u32::MAX)?;
+    let (b, place) = number_at(line, place, u32::MAX)?;
+    let (position, place) = number_at(line, place, u32::MAX)?;
     let (used, place) = number_at(line, place, 1)?;
     line_ends(line, place)?;
     let kind = kind_of(kind, a, b)?;
@@ -149,8 +146,8 @@ pub(crate) fn slide(line: &[u8], at: usize, reply: &mut Writer) -> Option<()> {
     Some(())
 }
 
-// The kind of slider that a number stands for, with its travel, its work or its number; only a span has both. A function, as the kind is the
-// slider's own type and the number the dialogue's.
+// The kind of slider that a number stands for, with its travel, its work or its number; only a span has both. A function and no From:
+// neither the number's type nor the kind's is the table's own.
 fn kind_of(kind: u32, a: u32, b: u32) -> Option<Kind> {
     match (kind, b) {
         (0, _) => Some(Kind::Span(Travel {
@@ -163,7 +160,7 @@ fn kind_of(kind: u32, a: u32, b: u32) -> Option<Kind> {
     }
 }
 
-// The use that a number stands for.
+// The use that a number stands for; `number_at` let 0 and 1 through.
 fn use_of(used: u32) -> Use {
     match used {
         0 => Use::AtMost,

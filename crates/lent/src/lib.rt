@@ -1,7 +1,7 @@
 // Signed numbers read into naturals and written from them, in lent memory. Nothing here knows of planning.
 #![tactic(auto)]
 
-ghost use Rattle.std.specs.Prelude.{◌≡◌, ◌++◌, map, ℕ, ◌+◌, ◌<◌, ◌≤◌, length, replicate, get_or, take, drop, ℤ, pos, neg_ℤ, nat_abs, ◌+ℤ◌};
+ghost use Rattle.std.specs.Prelude.{◌≡◌, ◌++◌, map, ℕ, ◌+◌, ◌<◌, ◌≤◌, length, get_or, drop, ℤ, pos, neg_ℤ, nat_abs, ◌+ℤ◌};
 ghost use Rattle.std.proofs.Math.IntN.{sub_ℕ};
 ghost use Rattle.lent.specs.Sizes.{signed_end};
 

@@ -1,7 +1,6 @@
--- The triples one by one: the alternative that each is, what the tests of events and bounds say of it, and a step of each test. Assumes nothing.
+-- The triples one by one: the alternative that each is, and what the tests of events and bounds say of it. Assumes nothing.
 use mathlib.Core.Path.{◌≡◌, refl, ap, ◌∙◌}
-use mathlib.Core.Bool.{Bool, true, ◌&&◌}
-use mathlib.Core.List.{List, [], ◌∷◌, ◌++◌}
+use mathlib.Core.List.{List, [], ◌∷◌}
 use Prim.Native.Nat.{ℕ, zero, suc, ◌+◌, ◌*◌, ◌<◌, ◌≤◌}
 use native.Mathlib.Nat.{not-suc-le-zero}
 use native.Mathlib.Omega.{arith}
@@ -61,34 +60,3 @@ bounds-at (x ∷ (y ∷ (c ∷ more))) t zero h = (first-bound x y c more t).0
 bounds-at (x ∷ (y ∷ (c ∷ more))) t (suc j) h =
     let third : suc j * 3 + 2 ≡ suc (suc (suc (j * 3 + 2))) = omega arith in
     rw third (bounds-at more (first-bound x y c more t).1 j (omega arith))
-
--- ---- a step of a test over a triple that is cut off the front, and its end
-pub events-step : (f : ℤ → ℤ → Bool) (triple more : List ℤ) → length triple ≡ 3 → events f (triple ++ more) ≡ f (get_or triple 0 (pos 0)) (get_or triple 1 (pos 0)) && events f more
-unfolding events
-events-step f [] more h = absurd (omega arith)
-events-step f (x ∷ []) more h = absurd (omega arith)
-events-step f (x ∷ (y ∷ [])) more h = absurd (omega arith)
-events-step f (x ∷ (y ∷ (c ∷ []))) more h = refl
-events-step f (x ∷ (y ∷ (c ∷ (z ∷ rest)))) more h = absurd (omega arith)
-
-pub events-end : (f : ℤ → ℤ → Bool) (ts : List ℤ) → length ts < 3 → events f ts ≡ true
-unfolding events
-events-end f [] h = refl
-events-end f (x ∷ []) h = refl
-events-end f (x ∷ (y ∷ [])) h = refl
-events-end f (x ∷ (y ∷ (c ∷ rest))) h = absurd (omega arith)
-
-pub bounds-step : (f : ℤ → Bool) (triple more : List ℤ) → length triple ≡ 3 → bounds f (triple ++ more) ≡ f (get_or triple 2 (pos 0)) && bounds f more
-unfolding bounds
-bounds-step f [] more h = absurd (omega arith)
-bounds-step f (x ∷ []) more h = absurd (omega arith)
-bounds-step f (x ∷ (y ∷ [])) more h = absurd (omega arith)
-bounds-step f (x ∷ (y ∷ (c ∷ []))) more h = refl
-bounds-step f (x ∷ (y ∷ (c ∷ (z ∷ rest)))) more h = absurd (omega arith)
-
-pub bounds-end : (f : ℤ → Bool) (ts : List ℤ) → length ts < 3 → bounds f ts ≡ true
-unfolding bounds
-bounds-end f [] h = refl
-bounds-end f (x ∷ []) h = refl
-bounds-end f (x ∷ (y ∷ [])) h = refl
-bounds-end f (x ∷ (y ∷ (c ∷ rest))) h = absurd (omega arith)

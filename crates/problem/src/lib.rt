@@ -1,4 +1,4 @@
-// A checked problem by value, in the numbers that the tests use, and the limits that it keeps: from lent slices, or why they are refused.
+// A checked problem, in the numbers that the tests use, and the limits that it keeps: from lent slices, or why they are refused.
 #![tactic(auto)]
 
 mod loading;
@@ -43,6 +43,7 @@ pub struct Edge {
 
 // A problem of n events and m clauses. Clause k holds alternatives starts[k] to starts[k + 1]; arc j is alternative j and arc 64 + j its
 // opposite. Unused elements are 0.
+// The arrays stand with their sizes beside them, since memory is fixed and there is no heap.
 #[derive(Clone, Copy)]
 pub struct Problem {
     pub n: usize,

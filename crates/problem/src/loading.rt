@@ -1,4 +1,4 @@
-// An accepted problem by value, from the lent slices.
+// An accepted problem, in arrays of its own, from the lent slices.
 ghost use Rattle.std.specs.Prelude.{◌≡◌, ◌∷◌, ℕ, suc, ◌<◌, ◌≤◌, pos, nat_abs, length, get_or, IfOk};
 ghost use Rattle.meaning.specs.Limits.{most_events, most_clauses, most_alternatives};
 ghost use Rattle.meaning.specs.Refusal.{told_as};
@@ -50,7 +50,7 @@ fn load(triples: &[i32]) -> [Edge; ARCS]
     arcs
 }
 
-// The problem that was lent, checked, or why it is refused.
+// The problem that was lent, checked, or why it is refused. The three come apart, as `plan` is lent them (01, "What the table is given").
 pub fn check(n: u32, triples: &[i32], counts: &[u32]) -> Result<Problem, Refusal>
     ensures number { told_as result ≡ problem_refusal (given n triples.now counts.now) }
     ensures reads { IfOk result (Reads (given n triples.now counts.now)) }

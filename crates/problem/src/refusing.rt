@@ -33,62 +33,44 @@ fn is_event(n: u32, x: i32) -> bool
 fn is_bound(c: i32) -> bool
     ensures { result ≡ is_bound c }
 {
-    -BOUND <= c && c <= BOUND
+    (-BOUND..=BOUND).contains(&c)
 }
 
 // Whether all event numbers of the triples are.
 fn all_events(n: u32, triples: &[i32]) -> bool
     ensures { result ≡ events (are_events n) triples.now }
 {
-    for triple in triples.chunks_exact(3) {
-        if !is_event(n, triple[0]) || !is_event(n, triple[1]) {
-            return false;
-        }
-    }
-    true
+    triples
+        .chunks_exact(3)
+        .all(|triple| is_event(n, triple[0]) && is_event(n, triple[1]))
 }
 
 // Whether no triple holds an event against itself.
 fn all_apart(triples: &[i32]) -> bool
     ensures { result ≡ events are_apart triples.now }
 {
-    for pair in triples.chunks_exact(3) {
-        if pair[0] == pair[1] {
-            return false;
-        }
-    }
-    true
+    triples.chunks_exact(3).all(|triple| triple[0] != triple[1])
 }
 
 // Whether all bounds of the triples are.
 fn all_bounds(triples: &[i32]) -> bool
     ensures { result ≡ bounds is_bound triples.now }
 {
-    for triple in triples.chunks_exact(3) {
-        if !is_bound(triple[2]) {
-            return false;
-        }
-    }
-    true
+    triples.chunks_exact(3).all(|triple| is_bound(triple[2]))
 }
 
-// Whether a problem is refused, and why: the first that applies of 1 2 3 4 5 12 6.
+// Whether a problem is refused, and why: the first that applies of 1 2 3 4 5 12 6. The three slices come apart, as `plan` is lent them
+// (01, "What the table is given").
 pub fn refusal(n: u32, triples: &[i32], counts: &[u32]) -> Result<(), Refusal>
     ensures { told_as result ≡ problem_refusal (given n triples.now counts.now) }
 {
-    if n < 1 {
-        return Err(Refusal::Events);
-    }
-    if EVENTS < n as usize {
+    if n < 1 || EVENTS < n as usize {
         return Err(Refusal::Events);
     }
     if CLAUSES < counts.len() {
         return Err(Refusal::Clauses);
     }
-    if triples.len() % 3 != 0 {
-        return Err(Refusal::Triples);
-    }
-    if 3 * ALTERNATIVES < triples.len() {
+    if triples.len() % 3 != 0 || 3 * ALTERNATIVES < triples.len() {
         return Err(Refusal::Triples);
     }
     if !steps(counts, triples.len() / 3) {

@@ -1,19 +1,14 @@
 -- `problem::refusing::all_events` meets its contract.
-use Rattle.std.proofs.Common.{◌≡◌, length, arith}
-use Rattle.lent.proofs.Signed.{element}
+use Rattle.std.proofs.Common.{rules, ◌∙◌, List, ℤ, pos, get_or}
+use borrow.Author.Tests.{tests}
+use Rattle.std.proofs.lemmas.Iterator.Search.{all_from_yields_List}
 use Rattle.meaning.specs.Screen.{are_events}
-use Rattle.problem.proofs.Triples.{events-step, events-end}
+use Rattle.problem.proofs.Threes.{YieldsList-from_threes, events-of}
 use Rattle.problem.proofs.refusing.all_events.Goals as goal
 
-pub returns-then-not-is_event : goal.returns-then-not-is_event
-returns-then-not-is_event c =
-    let size : length c.in-Some.triple.now ≡ 3 = grind (arith, c.in-Some.ensures.steps) in
-    grind (arith, element, events-step (are_events c.args.n) _ c.next.new.self.rest.now size, c.in-Some.ensures.steps)
-
-pub loop-triple-preserved : goal.loop-triple-preserved
-loop-triple-preserved c =
-    let size : length c.in-Some.triple.now ≡ 3 = grind (arith, c.in-Some.ensures.steps) in
-    grind (arith, element, events-step (are_events c.args.n) _ c.next.new.self.rest.now size, c.in-Some.ensures.steps)
-
 pub returns : goal.returns
-returns c = grind (arith, events-end, c.in-None.ensures.steps)
+returns c =
+    let ts = c.args.triples.now in
+    let n = c.args.n in
+    all_from_yields_List (λ (t : List ℤ). are_events n (get_or t 0 (pos 0)) (get_or t 1 (pos 0))) _ _ _ c.all.ensures.ran (YieldsList-from_threes ts (cc) (cc)) (λ x b q k. search (rules, tests))
+    ∙ events-of (are_events n) ts

@@ -11,6 +11,7 @@ use Rattle.meaning.specs.Limits.{most_events, most_clauses, most_alternatives}
 use Rattle.meaning.specs.Screen.{stepped, events, bounds, are_events, are_apart, is_bound, Test, problem_tests, first_failed, problem_refusal}
 use Rattle.problem.specs.Reads.{given}
 use Rattle.problem.proofs.refusing.refusal.Goals as goal
+use Rattle.problem.proofs.refusing.refusal.Goals.{then-n-lt1-via-then-n-lt1, then-n-lt1-via-else-n-lt1+then-n-gt-EVENTS, then-triples-ne0-via-then-triples-ne0, then-triples-ne0-via-else-triples-ne0+then-triples}
 
 -- ---- what is left of the tests, once those before are passed
 abbrev of_bounds : List ℤ → List Test
@@ -58,11 +59,11 @@ failed r more e = rw e refl
 
 pub returns-then-n-lt1 : goal.returns-then-n-lt1
 unfolding problem_refusal problem_tests first_failed
-returns-then-n-lt1 c = rw (lt-leb 1 _ c.if-n-lt1.true) refl
-
-pub returns-then-n-gt-EVENTS : goal.returns-then-n-gt-EVENTS
-unfolding problem_refusal problem_tests first_failed
-returns-then-n-gt-EVENTS c = rw (le-leb 1 _ c.if-n-lt1.false, lt-leb _ most_events c.if-n-gt-EVENTS.true) refl
+returns-then-n-lt1 c =
+    elim c.then-n-lt1.branch [
+      | then-n-lt1-via-then-n-lt1 w ↦ rw (lt-leb 1 _ w.if-n-lt1.true) refl
+      | then-n-lt1-via-else-n-lt1+then-n-gt-EVENTS w ↦ rw (le-leb 1 _ w.if-n-lt1.false, lt-leb _ most_events w.if-n-gt-EVENTS.true) refl
+    ]
 
 pub returns-then-counts-gt-CLAUSES : goal.returns-then-counts-gt-CLAUSES
 unfolding problem_refusal problem_tests first_failed
@@ -72,12 +73,11 @@ returns-then-counts-gt-CLAUSES c =
 pub returns-then-triples-ne0 : goal.returns-then-triples-ne0
 unfolding problem_refusal problem_tests first_failed
 returns-then-triples-ne0 c =
-    rw (le-leb 1 _ c.if-n-lt1.false, le-leb c.args.n most_events (omega arith), le-leb _ most_clauses c.if-counts-gt-CLAUSES.false, ne_eqb _ 0 c.if-triples-ne0.true) refl
-
-pub returns-then-triples : goal.returns-then-triples
-unfolding problem_refusal problem_tests first_failed
-returns-then-triples c =
-    rw (le-leb 1 _ c.if-n-lt1.false, le-leb c.args.n most_events (omega arith), le-leb _ most_clauses c.if-counts-gt-CLAUSES.false, eq-eqb _ 0 c.if-triples-ne0.false, lt-leb _ (3 * most_alternatives) c.if-triples.true) refl
+    rw (le-leb 1 _ c.if-n-lt1.false, le-leb c.args.n most_events (omega arith), le-leb _ most_clauses c.if-counts-gt-CLAUSES.false)
+    (elim c.then-triples-ne0.branch [
+      | then-triples-ne0-via-then-triples-ne0 w ↦ rw (ne_eqb _ 0 w.if-triples-ne0.true) refl
+      | then-triples-ne0-via-else-triples-ne0+then-triples w ↦ rw (eq-eqb _ 0 w.if-triples-ne0.false, lt-leb _ (3 * most_alternatives) w.if-triples.true) refl
+    ])
 
 pub returns-then-not-steps : goal.returns-then-not-steps
 returns-then-not-steps c =

@@ -1,6 +1,6 @@
 -- A table of the rounds' times, row by row, and where the rounds may end. Assumes nothing.
 use Prim.Native.Nat.{ℕ, suc, ◌+◌, ◌*◌, ◌-◌, ◌≤◌, ◌<◌, max}
-use mathlib.Core.Path.{◌≡◌, refl, sym, ap, ◌∙◌}
+use mathlib.Core.Path.{◌≡◌, sym, ap, ◌∙◌}
 use mathlib.Core.List.{List, []}
 use mathlib.Core.Bool.{Bool, true, false, cond, false≢true}
 use native.Mathlib.Omega.{arith}
@@ -46,11 +46,7 @@ module _ (g : Net) (L z : List ℕ) (t : List (List ℕ)) where
       go i b (yes c) = get_or-set_other t (k + 1) i r [] (omega arith) ∙ h.row i c
       go i b (no c) = let q : i ≡ k + 1 = omega arith in rw q (get_or-set_same t (k + 1) r [] l ∙ next-round k h r e ∙ ap (λ (m : ℕ). rows g L z m) (sym (add-one k)))
 
-  -- the rounds may end when all are made
-  pub ended-all : (n k : ℕ) → 1 ≤ n → k ≡ n → Rounds g L z k t → Moving g L z k → Ended g L z n k t
-  ended-all n k p e h c = record { some = omega arith; most = omega arith; rounds = h; moving = record { each = λ i l. c.each i (omega arith) }; before = rw e refl; last = rw e refl }
-
-  -- and after one that changed no time, since all that follow it leave the times as they are
+  -- the rounds may end after one that changed no time, since all that follow it leave the times as they are
   pub ended-still : (n k : ℕ) → k < n → rows g L z (suc k) ≡ rows g L z k → Rounds g L z (k + 1) t → Moving g L z k → Ended g L z n (k + 1) t
   ended-still n k l e h c =
       let same : (m i : ℕ) → k ≤ m → k ≤ i → rows g L z m ≡ rows g L z i = λ m i a b. same_after g L z k e m a ∙ sym (same_after g L z k e i b) in

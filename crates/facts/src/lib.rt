@@ -1,5 +1,6 @@
 // The test of a set of facts, by rounds from an extra source (001): whether they are sound, and the latest timetable.
 // Arcs come in a slice by their numbers, facts as arc numbers; times are minutes before closing.
+// No struct holds arcs and facts with `Within`: it would be two references and a number, and the rounds ask the same facts within n and within `most_events`, so it would be no plainer.
 #![tactic(auto)]
 
 pub mod rounds;
@@ -10,11 +11,11 @@ ghost use Rattle.problem.specs.Arcs.{at, net, arc, Arc};
 ghost use Rattle.facts.specs.Tests.{farthest, places, Within, Tests};
 ghost use Rattle.facts.specs.Rounds.{Under, TestsFrom};
 
-use problem::{EVENTS, Edge};
+use problem::{ALTERNATIVES, EVENTS, Edge};
 use rounds::{ROWS, put_rounds, rising};
 
 // The places of a buffer of facts: one for each alternative or its opposite, and one for an arc that is tested with them.
-pub const PLACES: usize = 65;
+pub const PLACES: usize = ALTERNATIVES + 1;
 
 // The test from times that lie under every timetable of the facts.
 fn test_from(arcs: &[Edge], facts: &[u8], n: usize, start: [u32; EVENTS]) -> Option<[u32; EVENTS]>
@@ -40,6 +41,7 @@ pub fn test(arcs: &[Edge], facts: &[u8], n: usize) -> Option<[u32; EVENTS]>
 }
 
 // The test of the facts from place `at` of the buffer on, with arc j before them.
+// The buffer comes by value with its place beside it: there is no heap, and the caller's stays as it is. Not a method of `held::Facts`: docs/CLAIMS.md names it here.
 pub fn test_with(
     arcs: &[Edge],
     buffer: [u8; PLACES],

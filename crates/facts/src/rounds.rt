@@ -11,14 +11,14 @@ use problem::{BIAS, EVENTS, Edge};
 pub const ROWS: usize = EVENTS + 1;
 
 // The later of two bounds on a time: old, and u - b where that is above it.
-// Not old.max(u.saturating_sub(b)): that becomes a jump, which nothing foretells, and the search took half as long again.
+// Not old.max(u.saturating_sub(b)): that becomes a branch which the processor can't predict, and the search took half as long again.
 fn raised(old: u32, u: u32, b: u32) -> u32
     ensures { result ≡ max old (u - b) }
 {
     if b <= u { old.max(u - b) } else { old }
 }
 
-// One round of all facts, or of all facts turned round.
+// One round of all facts, or of all facts turned round: one function for both ways, as `aimed` says them.
 pub fn round_of<const TURNED: bool>(
     arcs: &[Edge],
     facts: &[u8],
@@ -43,6 +43,7 @@ pub fn round_of<const TURNED: bool>(
 }
 
 // The rounds from start in a lent table, row k with the times after k of them, until one raises no event or n are made; gives how many were. The rows after them stay.
+// The table is a slice with its length beside it: this function is public, and [_; ROWS] would be a narrower type.
 pub fn put_rounds(
     arcs: &[Edge],
     facts: &[u8],
@@ -70,10 +71,5 @@ pub fn rising(before: [u32; EVENTS], after: [u32; EVENTS], n: usize) -> Option<u
     requires { n ≤ most_events }
     ensures { Rising n before after result }
 {
-    for v in 0..n {
-        if before[v] < after[v] {
-            return Some(v);
-        }
-    }
-    None
+    (0..n).find(|&v| before[v] < after[v])
 }

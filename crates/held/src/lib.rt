@@ -13,7 +13,8 @@ ghost use Rattle.facts.specs.Tests.{places, Within, Tests};
 use facts::PLACES;
 use problem::{EVENTS, Problem, ROW};
 
-// Facts as arc numbers, newest first, from place `at` of the buffer on.
+// Facts as arc numbers, newest first, from place `at` of the buffer on: an array with a place beside it, since memory is fixed and there is no heap.
+// `Ready` is a fact of a problem and facts, and a ghost field knows its own struct alone.
 #[derive(Clone, Copy)]
 pub struct Facts {
     pub buffer: [u8; PLACES],

@@ -20,7 +20,8 @@ use std::ops::ControlFlow;
 pub use taken::chosen_of;
 use taken::{facts_of, first_dead};
 
-// A standing: its positions are the first k picks.
+// A standing: its positions are the first k picks, an array with its length beside it, since memory is fixed and there is no heap.
+// `Inside` is a fact of a problem and a standing, and a ghost field knows its own struct alone.
 #[derive(Clone, Copy)]
 pub struct Standing {
     pub picks: [u8; CLAUSES],

@@ -1,5 +1,5 @@
 // Rows of the list of reasons, written to lent memory as long as they fit.
-ghost use Rattle.std.specs.Prelude.{◌≡◌, true, false, ◌∷◌, map, ◌+◌, ◌<◌, ◌≤◌};
+ghost use Rattle.std.specs.Prelude.{◌≡◌, ◌↔◌, IsTrue, true, false, ◌∷◌, map, ◌+◌, ◌*◌, ◌<◌, ◌≤◌, length};
 ghost use Rattle.meaning.specs.Limits.{row_bytes};
 ghost use Rattle.meaning.specs.Decision.{sound};
 ghost use Rattle.meaning.specs.Search.{dead, cycle};
@@ -13,11 +13,10 @@ ghost use Rattle.search.specs.Steps.{most_rows};
 
 use held::Facts;
 use problem::{Problem, ROW};
-
-// What fills a row.
-const BLANK: u8 = 255;
+use shortest::BLANK;
 
 // A mark row.
+#[tactic(auto, unfolding(meaning::specs::Reasons::mark_row))]
 pub fn mark_row(first: u8) -> [u8; ROW]
     ensures { result ≡ mark_row row_bytes first }
 {
@@ -26,13 +25,21 @@ pub fn mark_row(first: u8) -> [u8; ROW]
     row
 }
 
+// Whether the list has room for row number `rows`.
+fn has_room(reasons: &[u8], rows: usize) -> bool
+    requires { rows ≤ most_rows }
+    ensures { IsTrue result ↔ (rows * row_bytes + row_bytes ≤ length reasons.now) }
+{
+    rows * ROW + ROW <= reasons.len()
+}
+
 // Row number `rows` of the list, where there is room for it.
 pub fn put_row(reasons: &mut [u8], rows: usize, row: [u8; ROW])
     requires { rows ≤ most_rows }
     ensures { reasons.new ≡ put_row reasons.old rows row }
 {
-    let from = rows * ROW;
-    if from + ROW <= reasons.len() {
+    if has_room(reasons, rows) {
+        let from = rows * ROW;
         reasons[from..from + ROW].copy_from_slice(&row);
     }
 }
@@ -42,7 +49,7 @@ pub fn put_reason(p: &Problem, f: Facts, reasons: &mut [u8], rows: usize)
     requires { Within (arcs p.now) (held f) p.now.n × (sound (facts_in p.now f) ≡ false) × (rows ≤ most_rows) }
     ensures { reasons.new ≡ put_row reasons.old rows (row_of row_bytes (cycle (facts_in p.now f))) }
 {
-    if rows * ROW + ROW <= reasons.len() {
+    if has_room(reasons, rows) {
         put_row(reasons, rows, f.reason(p));
     }
 }

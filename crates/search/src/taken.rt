@@ -10,10 +10,10 @@ ghost use Rattle.search.specs.Standing.{takes, standing_facts, chosen_facts, Ins
 
 use crate::Standing;
 use held::Facts;
-use problem::{CLAUSES, Problem};
+use problem::{ALTERNATIVES, CLAUSES, Problem};
 
 // The number by which an opposite follows its alternative.
-const OPPOSITE_FROM: u8 = 64;
+const OPPOSITE_FROM: u8 = ALTERNATIVES as u8;
 
 // The facts of position `pick` of clause k, put before those of f.
 fn taking(p: &Problem, mut f: Facts, k: usize, pick: u8) -> Facts
@@ -57,14 +57,7 @@ fn is_dead(p: &Problem, f: Facts, d: usize) -> bool
     requires { Ready p.now f × (d < p.now.m) }
     ensures { result ≡ dead sound (facts_in p.now f) (clause_of p.now d) }
 {
-    let first = p.starts[d];
-    let end = p.starts[d + 1];
-    for j in first..end {
-        if f.tested_with(p, j).is_some() {
-            return false;
-        }
-    }
-    true
+    (p.starts[d]..p.starts[d + 1]).all(|j| f.tested_with(p, j).is_none())
 }
 
 // The lowest dead clause from clause k on, if there is one.
@@ -72,10 +65,5 @@ pub fn first_dead(p: &Problem, f: Facts, k: usize) -> Option<usize>
     requires { Ready p.now f × (k ≤ p.now.m) }
     ensures { DeadFrom p.now f k result }
 {
-    for d in k..p.m {
-        if is_dead(p, f, d) {
-            return Some(d);
-        }
-    }
-    None
+    (k..p.m).find(|&d| is_dead(p, f, d))
 }

@@ -5,13 +5,14 @@ ghost use Rattle.problem.specs.Arcs.{net};
 ghost use Rattle.facts.specs.Tests.{Within};
 ghost use Rattle.shortest.specs.Heights.{start, Closes};
 
-use facts::rounds::round_of;
+use facts::rounds::{ROWS, round_of};
 use problem::{BIAS, EVENTS, Edge};
 
 // The height of the target: a bias for each arc of a row.
 pub const HIGHEST: u32 = EVENTS as u32 * BIAS;
 
 // The start of the rounds to t.
+#[tactic(auto, unfolding(crate::specs::Heights::start))]
 fn start_at(t: usize) -> [u32; EVENTS]
     requires { t < most_events }
     ensures { result ≡ start t }
@@ -22,14 +23,15 @@ fn start_at(t: usize) -> [u32; EVENTS]
 }
 
 // The rounds to t in a lent table, row r with the heights after r of them, until t stands above its start or `most` are made; gives the round after which it does.
+// Not by facts::rounds::put_rounds, which ends where nothing changes: docs/DECISIONS.md, "`shortest` was added beside `facts`".
 pub fn rounds_to(
     arcs: &[Edge],
     facts: &[u8],
     t: usize,
     most: usize,
-    tab: &mut [[u32; EVENTS]],
+    tab: &mut [[u32; EVENTS]; ROWS],
 ) -> Option<usize>
-    requires { Within (net arcs.now) facts.now most_events × (t < most_events) × (most ≤ most_events) × (length tab.old ≡ most_events + 1) }
+    requires { Within (net arcs.now) facts.now most_events × (t < most_events) × (most ≤ most_events) }
     ensures { Closes (net arcs.now) facts.now t most result tab.new }
 {
     tab[0] = start_at(t);

@@ -6,11 +6,10 @@ ghost use Rattle.facts.specs.Tests.{Within};
 ghost use Rattle.shortest.specs.Heights.{peak, Lifts};
 ghost use Rattle.shortest.specs.Leading.{Leads, Picks, RowFrom};
 
+use crate::BLANK;
 use crate::heights::HIGHEST;
+use facts::rounds::ROWS;
 use problem::{BIAS, EVENTS, Edge, ROW};
-
-// What fills a row after its numbers.
-pub const BLANK: u8 = 255;
 
 // Whether arc j leads on from u to an event that lies higher than what is needed.
 fn leads(arcs: &[Edge], j: u8, u: usize, need: u32, heights: &[u32; EVENTS]) -> bool
@@ -22,14 +21,15 @@ fn leads(arcs: &[Edge], j: u8, u: usize, need: u32, heights: &[u32; EVENTS]) -> 
 }
 
 // The smallest number of a fact that leads on from u.
+// Tried: filter and min. The two goals that they leave open need `Leads` as a test and a law of the least of a filtered list; the loop needs its invariant alone.
 fn next_arc(arcs: &[Edge], facts: &[u8], u: usize, need: u32, heights: &[u32; EVENTS]) -> Option<u8>
     requires { Within (net arcs.now) facts.now most_events × ((v : ℕ) → at heights.now v ≤ peak) × (need ≤ peak) }
     ensures { Picks (net arcs.now) facts.now heights.now u need result }
 {
     let mut best: Option<u8> = None;
     for &j in facts {
-        if leads(arcs, j, u, need, heights) {
-            best = Some(j.min(best.unwrap_or(j)));
+        if leads(arcs, j, u, need, heights) && best.is_none_or(|b| j < b) {
+            best = Some(j);
         }
     }
     best
@@ -39,11 +39,11 @@ fn next_arc(arcs: &[Edge], facts: &[u8], u: usize, need: u32, heights: &[u32; EV
 pub fn first_from(
     arcs: &[Edge],
     facts: &[u8],
-    tab: &[[u32; EVENTS]],
+    tab: &[[u32; EVENTS]; ROWS],
     t: usize,
     size: usize,
 ) -> [u8; ROW]
-    requires { Within (net arcs.now) facts.now most_events × (t < most_events) × (size ≤ most_events) × Lifts (net arcs.now) facts.now t size tab.now × (length tab.now ≡ most_events + 1) }
+    requires { Within (net arcs.now) facts.now most_events × (t < most_events) × (size ≤ most_events) × Lifts (net arcs.now) facts.now t size tab.now }
     ensures { RowFrom (net arcs.now) facts.now t size result }
 {
     let mut out = [BLANK; ROW];

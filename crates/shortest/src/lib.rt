@@ -19,7 +19,10 @@ use heights::rounds_to;
 use leading::first_from;
 use problem::{EVENTS, Edge, ROW};
 
-// A row and how many numbers it has.
+// What fills a row after its numbers.
+pub const BLANK: u8 = 255;
+
+// A row and how many numbers it has: a size beside an array, since memory is fixed and there is no heap.
 #[derive(Clone, Copy)]
 struct Found {
     size: usize,
@@ -32,9 +35,9 @@ fn look(
     facts: &[u8],
     t: usize,
     most: usize,
-    tab: &mut [[u32; EVENTS]],
+    tab: &mut [[u32; EVENTS]; ROWS],
 ) -> Option<Found>
-    requires { Within (net arcs.now) facts.now most_events × (t < most_events) × (most ≤ most_events) × (length tab.old ≡ most_events + 1) }
+    requires { Within (net arcs.now) facts.now most_events × (t < most_events) × (most ≤ most_events) }
     ensures { Looks (net arcs.now) facts.now t most result }
 {
     let size = rounds_to(arcs, facts, t, most, tab)?;

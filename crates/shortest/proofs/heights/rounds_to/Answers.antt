@@ -13,6 +13,7 @@ loop-r-init c =
     record {
       made = rounds-first _ _ _ _ (get_or-set_same c.args.tab.now 0 _ [] (omega arith) ∙ c.start_at.ensures) _ (omega arith);
       low = start-below _ _ c.args.t c.requires.1;
+      long = omega (arith, length-set {A = List ℕ}, c.well_formed);
     }
 
 pub round_of-nxt-requires : goal.round_of-nxt-requires
@@ -31,7 +32,7 @@ returns-then-nxt-t-gt-HIGHEST c =
         record {
           below = l.invariant.low;
           above = omega (arith, round-height _ _ c.args.t l.tab l.r l.invariant.made r.result r.ensures c.args.t);
-          rounds = rounds-more _ _ _ l.tab l.r l.invariant.made (omega (arith, length-set {A = List ℕ})) r.result r.ensures;
+          rounds = rounds-more _ _ _ l.tab l.r l.invariant.made (omega (arith, length-set {A = List ℕ}, l.invariant.long)) r.result r.ensures;
         },
       );
       none = λ e. absurd (true≢false e);
@@ -42,6 +43,7 @@ loop-r-preserved c =
     let l = c.loop-r in
     let r = c.round_of-nxt in
     record {
-      made = rounds-more _ _ _ l.tab l.r l.invariant.made (omega (arith, length-set {A = List ℕ})) r.result r.ensures;
+      made = rounds-more _ _ _ l.tab l.r l.invariant.made (omega (arith, length-set {A = List ℕ}, l.invariant.long)) r.result r.ensures;
       low = below_more _ _ l.invariant.low (omega (arith, round-height _ _ c.args.t l.tab l.r l.invariant.made r.result r.ensures c.args.t));
+      long = omega (arith, length-set {A = List ℕ}, l.invariant.long);
     }

@@ -1,5 +1,5 @@
 -- `first_from` leads a front on: after i turns it has the i numbers of a front that can still be closed, and no closed row comes before it. Assumes nothing.
-use Rattle.std.proofs.Common.{◌≡◌, ℕ, ◌+◌, ◌-◌, ◌≤◌, ◌<◌, List, [], Option, Some, length, get_or, refl, sym, ◌∙◌, arith}
+use Rattle.std.proofs.Common.{◌≡◌, ℕ, ◌-◌, ◌≤◌, ◌<◌, List, [], Option, Some, get_or, refl, sym, ◌∙◌, arith}
 use Rattle.meaning.specs.Limits.{most_events}
 use Rattle.problem.specs.declared.Edge.{Edge}
 use Rattle.problem.specs.Arcs.{net, Arc}
@@ -13,7 +13,7 @@ use Rattle.shortest.proofs.Fronts.{Front, front-start, front-small, front-end, f
 use Rattle.shortest.proofs.leading.first_from.Goals as goal
 
 -- the arc of a turn
-turn-arc : (l : List Edge) {L out : List ℕ} {tab : List (List ℕ)} {t size u need i left j k : ℕ} → Within (net l) L most_events × (t < most_events) × (size ≤ most_events) × Lifts (net l) L t size tab × (length tab ≡ most_events + 1) → Front (net l) L t size out u need i → i < size → left ≡ size - i - 1 → (pick : Option ℕ) → Picks (net l) L (get_or tab left []) u need pick → pick ≡ Some j → k ≡ j → Arc (net l) most_events k
+turn-arc : (l : List Edge) {L out : List ℕ} {tab : List (List ℕ)} {t size u need i left j k : ℕ} → Within (net l) L most_events × (t < most_events) × (size ≤ most_events) × Lifts (net l) L t size tab → Front (net l) L t size out u need i → i < size → left ≡ size - i - 1 → (pick : Option ℕ) → Picks (net l) L (get_or tab left []) u need pick → pick ≡ Some j → k ≡ j → Arc (net l) most_events k
 turn-arc l {L} {out} {tab} {t} {size} {u} {need} {i} {left} {j} {k} r f h e pick p s q =
     rw q (front-arc (net l) L tab t size r.0 (kept-within l L most_events r.0) r.1 r.2 r.3 out u need i f left h e j (rw s at p))
 

@@ -36,6 +36,7 @@ fn load(triples: &[i32]) -> [Edge; ARCS]
     ensures { result ≡ edges_of (alternatives 0 triples.now) }
 {
     let mut arcs = [Edge { x: 0, y: 0, b: 0 }; ARCS];
+    // By an index: `for (j, triple) in triples.chunks_exact(3).enumerate()` was tried, and left twelve goals of the iterator open.
     for j in 0..triples.len() / 3 {
         let x = event(triples[j * 3]);
         let y = event(triples[j * 3 + 1]);

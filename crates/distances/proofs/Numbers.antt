@@ -1,6 +1,5 @@
 -- Distances as naturals: what a number stands for, and what lowering it means. Assumes nothing.
 use mathlib.Core.Path.{◌≡◌, sym, ◌∙◌}
-use mathlib.Core.Bool.{Bool, true}
 use mathlib.Core.Logic.{inl, inr, ⊎_elim}
 use Prim.Native.Nat.{ℕ, suc, ◌+◌, ◌*◌, ◌-◌, ◌<◌, ◌≤◌, min}
 use native.Mathlib.Nat.{suc-mul, mul-le-mul_right}
@@ -8,7 +7,7 @@ use native.Mathlib.Omega.{arith}
 use lib.Dec.{leb, leb→le, le→leb}
 use lib.IntN.{pos, sub_ℕ, ◌+ℤ◌}
 use lib.Signed.{le_z}
-use borrow.Author.Tests.{lt-ltb, le-ltb, le-leb, leb-true}
+use borrow.Author.Tests.{lt-ltb, le-ltb, le-leb}
 use Rattle.laws.proofs.Order.{lt-or-ge}
 use Rattle.laws.proofs.Tests.{same_test}
 use Rattle.problem.specs.Arcs.{bias}
@@ -69,9 +68,6 @@ fits-number e b = ⊎_elim reached not-reached (lt-or-ge e no_way)
 
     not-reached : no_way ≤ e → leb turn (e + b) ≡ closes (distance e) (sub_ℕ b bias)
     not-reached h = rw (distance_none e h) (unfold no_longer and_then in le-leb turn (e + b) (omega arith))
-
-pub fits-enough : (e b : ℕ) {r : Bool} → r ≡ leb turn (e + b) → r ≡ true → turn ≤ e + b
-fits-enough e b p q = leb-true turn (e + b) (sym p ∙ q)
 
 -- a fact that fits shortens no way from its own end
 pub lowered-self : (p b e : ℕ) → turn ≤ p + b → lowered e (shift p b) e ≡ e

@@ -11,21 +11,23 @@ ghost use Rattle.distances.specs.Distances.{DayOf};
 ghost use Rattle.distances.specs.Numbers.{middle, turn, shift, lowered, blocked, table_at, minutes_of, Stands, Holds};
 ghost use Rattle.distances.specs.Rows.{Begun, Clear, RowLowered, Room, Extended};
 
-use problem::EVENTS;
+use problem::{BIAS, EVENTS, Edge};
 
 // The number of the distance 0.
-pub const MIDDLE: u32 = 2300024;
+pub const MIDDLE: u32 = (EVENTS as u32 - 1) * BIAS + 1;
 
-// The number of none. A number and no Option: a table is lowered word by word, which an Option's tag would slow (docs/PERFORMANCE.md).
+// The number of none. A number and no Option: an entry of the papers is a number too, none's among them (02, A8), and specs/Numbers
+// (`distance`, `lowered`) reads an entry of a table as this number.
 pub const NO_WAY: u32 = 1073741824;
 
 // What a way over a fact adds too much: the distance 0 and the bound 0 in numbers.
-const TURN: u32 = 2400025;
+const TURN: u32 = MIDDLE + BIAS;
 
-// What stands for the way over a fact whose start is not reached.
+// What stands for the way over a fact whose start is not reached: a number too, as specs/Numbers (`shift`) reads it.
 const BLOCKED: u32 = 2147483648;
 
-// Where a table lies in a slice: n rows of n entries from place `base` on, w places from row to row.
+// Where a table lies in a slice: n rows of n entries from place `base` on, w places from row to row. The slice stays outside: `extend` goes
+// from one table to another of the same slice.
 #[derive(Clone, Copy)]
 pub struct Grid {
     pub base: usize,
@@ -51,6 +53,20 @@ pub struct Fact {
     pub y: usize,
     pub b: u32,
     ghost bounded: { b < 2 * bias },
+}
+
+impl Fact {
+    // An arc as a fact. No `From`: an edge's bound may be any number.
+    pub fn of(edge: Edge) -> Fact
+        requires { edge.b < 2 * bias }
+        ensures { (result.x ≡ edge.x) × (result.y ≡ edge.y) × (result.b ≡ edge.b) }
+    {
+        Fact {
+            x: edge.x as usize,
+            y: edge.y as usize,
+            b: edge.b,
+        }
+    }
 }
 
 // What the way to a fact's start, of number p, and the fact, of bound b, add.

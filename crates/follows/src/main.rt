@@ -2,7 +2,7 @@
 // timetable as it is left. Of a day the first n rows of n entries are shown, each row led by a bar, an entry that is none as a dash.
 #![tactic(auto)]
 
-ghost use Rattle.std.specs.Prelude.{◌≡◌, ◌≤◌, ◌<◌, length};
+ghost use Rattle.std.specs.Prelude.{◌≤◌, ◌<◌};
 
 use dialogue::Writer;
 use problem::EVENTS;
@@ -43,7 +43,8 @@ fn write_row(row: &[i32]) {
     }
 }
 
-// Writes the first n rows of n entries; none where there are more events than there may be.
+// Writes the first n rows of n entries; none where there are more events than there may be. Rows by number: tried: `chunks_exact`, of whose rows
+// the check did not find the length.
 fn write_rows(n: usize, entries: &[i32; ENTRIES]) {
     if n <= EVENTS {
         for u in 0..n {
@@ -69,7 +70,7 @@ fn write_title(title: &[u8]) {
 // Begins a day of n events, and shows it.
 fn fresh(n: u32) -> Day {
     io::write_all(1, b"  a fresh day of ");
-    io::print_decimal(1, n as u64);
+    io::print_decimal(1, u64::from(n));
     let begun = planner::fresh_day(n);
     write_answered(&begun);
     begun.day
@@ -112,7 +113,7 @@ fn read_into(day: Day, times: &mut [i32]) {
 
 // Reads a day off into so many elements, filled with 7s before.
 fn read_off(day: Day, elements: usize)
-    requires { elements ≤ 6 }
+    requires { elements ≤ TIMES }
 {
     let mut times = [7i32; TIMES];
     read_into(day, &mut times[..elements]);
@@ -120,7 +121,7 @@ fn read_off(day: Day, elements: usize)
 
 // A day with another entry from one event to another.
 fn with_entry(mut day: Day, from: usize, to: usize, z: i32) -> Day
-    requires { (from < 24) × (to < 24) }
+    requires { (from < EVENTS) × (to < EVENTS) }
 {
     day.entries[from * EVENTS + to] = z;
     day

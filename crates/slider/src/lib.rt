@@ -114,7 +114,7 @@ fn on_grid(x: f32, j: u32, limit: u32, both: bool) -> Result<(), Refusal>
     ensures { result ≡ if_at (within both limit (reading (2 ^ j) x)) }
 {
     let p = parts(x, j).ok_or(Refusal::Unread)?;
-    let below = !both & p.neg & (p.whole != 0);
+    let below = !both && p.neg && p.whole != 0;
     if p.cut || limit < p.whole || below {
         return Err(Refusal::Unread);
     }
@@ -148,7 +148,7 @@ fn bound_of(v: f32, used: Use) -> Result<i32, Refusal>
 {
     let p = parts(v, 0).ok_or(Refusal::Unread)?;
     let up = used == Use::AtLeast;
-    limited(p.neg != up, p.whole, p.cut & (p.neg != up))
+    limited(p.neg != up, p.whole, p.cut && p.neg != up)
 }
 
 // The bound of a Span at a position.

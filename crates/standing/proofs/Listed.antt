@@ -1,6 +1,6 @@
 -- A list by its elements: f 0, f 1 and so on. Assumes nothing.
 use mathlib.Core.Path.{◌≡◌, refl, sym, ap, ap₂, ◌∙◌, subst}
-use mathlib.Core.List.{List, [], ◌∷◌}
+use mathlib.Core.List.{List, ◌∷◌}
 use Prim.Native.Nat.{ℕ, zero, suc, ◌<◌}
 use native.Mathlib.Omega.{arith}
 use lib.IntN.{ℤ}
@@ -28,9 +28,3 @@ pub list_same : (k : ℕ) (f g : ℕ → ℤ) → ((i : ℕ) → i < k → f i �
 unfolding list_of
 list_same zero f g h = refl
 list_same (suc k) f g h = ap₂ ◌∷◌ (h 0 (omega arith)) (list_same k (λ i. f (suc i)) (λ i. g (suc i)) (λ i l. h (suc i) (omega arith)))
-
--- an element that is there does not depend on what is read past the end
-pub any-default : (l : List ℤ) (i : ℕ) (a b : ℤ) → i < length l → get_or l i a ≡ get_or l i b
-any-default [] i a b h = absurd (omega arith)
-any-default (x ∷ l) zero a b h = refl
-any-default (x ∷ l) (suc i) a b h = any-default l i a b (omega arith)

@@ -71,17 +71,12 @@ fn tried(p: &Problem, mut numbers: [u32; ENTRIES], j: usize) -> Result<[u32; ENT
     ensures { Tries numbers p.now.n (arc (arcs p.now) j) result }
 {
     let day = grid(p.n);
-    let arc = p.arcs[j];
-    let fact = Fact {
-        x: arc.x as usize,
-        y: arc.y as usize,
-        b: arc.b,
-    };
+    let fact = Fact::of(p.arcs[j]);
     if !fits_with(&numbers[..], day, fact) {
         return Err(Refusal::NoTimetable);
     }
     extend(&mut numbers[..], day, 0, fact);
-    if !all_numbers(&numbers[..]) {
+    if !all_numbers(&numbers) {
         return Err(Refusal::NoDay);
     }
     Ok(numbers)
@@ -93,7 +88,7 @@ fn added(day: &Day, x: i32, y: i32, c: i32, opposite: bool) -> Result<Day, Refus
     ensures value { IfOk result (λ new. new ≡ day_with day.now.n (added (asked x y c opposite) (table_of day.now))) }
 {
     let s = numbers_of(&day.entries);
-    day_refusal(&s[..], day.n)?;
+    day_refusal(&s, day.n)?;
     let p = alternative(day.n, x, y, c)?;
     let numbers = tried(&p, s, arc_of(opposite))?;
     Ok(Day {

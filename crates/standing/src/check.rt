@@ -1,5 +1,5 @@
 // Which numbers are a standing day (02, A8, refusal 16): in range, in their places, and with no detour shorter than an entry.
-ghost use Rattle.std.specs.Prelude.{◌≡◌, ℕ, ◌+◌, ◌*◌, ◌<◌, ◌≤◌, length};
+ghost use Rattle.std.specs.Prelude.{◌≡◌, ℕ, ◌+◌, ◌*◌, ◌<◌, ◌≤◌};
 ghost use Rattle.meaning.specs.Limits.{most_events};
 ghost use Rattle.problem.specs.Arcs.{at};
 ghost use Rattle.distances.specs.Adding.{no_longer, and_then};
@@ -9,12 +9,13 @@ ghost use Rattle.meaning.specs.Screen.{is_size, first_failed};
 ghost use Rattle.standing.specs.Standing.{every, in_range, is_table, table_tests};
 ghost use Rattle.standing.specs.Numbers.{placed_at};
 
+use super::ENTRIES;
 use distances::{MIDDLE, NO_WAY};
 use meaning::Refusal;
 use problem::EVENTS;
 
 // One more than the number of the longest distance.
-const RANGE_END: u32 = 4600048;
+const RANGE_END: u32 = 2 * MIDDLE;
 
 // Whether a number is none's or a distance's in range.
 fn is_number(e: u32) -> bool
@@ -24,8 +25,7 @@ fn is_number(e: u32) -> bool
 }
 
 // Whether all numbers are.
-pub fn all_numbers(s: &[u32]) -> bool
-    requires { length s.now ≡ most_events * most_events }
+pub fn all_numbers(s: &[u32; ENTRIES]) -> bool
     ensures { result ≡ every (most_events * most_events) (λ (k : ℕ). in_range (distance (at s.now k))) }
 {
     s.iter().all(|&e| is_number(e))
@@ -43,16 +43,15 @@ fn is_placed(e: u32, u: usize, v: usize, n: usize) -> bool
 }
 
 // Whether all numbers of event u's row may stand where they do.
-fn row_placed(s: &[u32], n: usize, u: usize) -> bool
-    requires { (length s.now ≡ most_events * most_events) × (u < most_events) }
+fn row_placed(s: &[u32; ENTRIES], n: usize, u: usize) -> bool
+    requires { u < most_events }
     ensures { result ≡ every most_events (λ (v : ℕ). placed_at n u v (table_at s.now 0 most_events u v)) }
 {
     (0..EVENTS).all(|v| is_placed(s[u * EVENTS + v], u, v, n))
 }
 
 // Whether all numbers may stand where they do.
-fn all_placed(s: &[u32], n: usize) -> bool
-    requires { length s.now ≡ most_events * most_events }
+fn all_placed(s: &[u32; ENTRIES], n: usize) -> bool
     ensures { result ≡ every most_events (λ (u : ℕ). every most_events (λ (v : ℕ). placed_at n u v (table_at s.now 0 most_events u v))) }
 {
     (0..EVENTS).all(|u| row_placed(s, n, u))
@@ -68,9 +67,10 @@ fn is_kept(e: u32, p: u32, q: u32) -> bool
     e < NO_WAY && e + MIDDLE <= p + q
 }
 
-// Whether no way from u over w is shorter than an entry from u.
-fn over_kept(s: &[u32], n: usize, u: usize, w: usize) -> bool
-    requires { (length s.now ≡ most_events * most_events) × (n ≤ most_events) × (u < n) × (w < n) }
+// Whether no way from u over w is shorter than an entry from u. This and the two after it are a function for each closure's contract: a nested
+// closure left goals too large to answer.
+fn over_kept(s: &[u32; ENTRIES], n: usize, u: usize, w: usize) -> bool
+    requires { (n ≤ most_events) × (u < n) × (w < n) }
     ensures { result ≡ every n (λ (v : ℕ). no_longer (table_at s.now 0 most_events u v) (and_then (table_at s.now 0 most_events u w) (table_at s.now 0 most_events w v))) }
 {
     let p = s[u * EVENTS + w];
@@ -78,24 +78,24 @@ fn over_kept(s: &[u32], n: usize, u: usize, w: usize) -> bool
 }
 
 // Whether no detour from u is shorter than an entry.
-fn from_kept(s: &[u32], n: usize, u: usize) -> bool
-    requires { (length s.now ≡ most_events * most_events) × (n ≤ most_events) × (u < n) }
+fn from_kept(s: &[u32; ENTRIES], n: usize, u: usize) -> bool
+    requires { (n ≤ most_events) × (u < n) }
     ensures { result ≡ every n (λ (w : ℕ). every n (λ (v : ℕ). no_longer (table_at s.now 0 most_events u v) (and_then (table_at s.now 0 most_events u w) (table_at s.now 0 most_events w v)))) }
 {
     (0..n).all(|w| over_kept(s, n, u, w))
 }
 
 // Whether no detour is shorter than an entry.
-fn all_kept(s: &[u32], n: usize) -> bool
-    requires { (length s.now ≡ most_events * most_events) × (n ≤ most_events) }
+fn all_kept(s: &[u32; ENTRIES], n: usize) -> bool
+    requires { n ≤ most_events }
     ensures { result ≡ every n (λ (u : ℕ). every n (λ (w : ℕ). every n (λ (v : ℕ). no_longer (table_at s.now 0 most_events u v) (and_then (table_at s.now 0 most_events u w) (table_at s.now 0 most_events w v))))) }
 {
     (0..n).all(|u| from_kept(s, n, u))
 }
 
 // Whether the numbers are a standing day of n events.
-pub fn is_table(s: &[u32], n: usize) -> bool
-    requires { (length s.now ≡ most_events * most_events) × (n ≤ most_events) }
+pub fn is_table(s: &[u32; ENTRIES], n: usize) -> bool
+    requires { n ≤ most_events }
     ensures { result ≡ is_table n (table_at s.now 0 most_events) }
 {
     all_numbers(s) && all_placed(s, n) && all_kept(s, n)
@@ -109,8 +109,7 @@ pub fn is_size(n: u32) -> bool
 }
 
 // What refuses a lent day everywhere: 1 or 16.
-pub fn day_refusal(s: &[u32], n: u32) -> Result<(), Refusal>
-    requires { length s.now ≡ most_events * most_events }
+pub fn day_refusal(s: &[u32; ENTRIES], n: u32) -> Result<(), Refusal>
     ensures { told_as result ≡ first_failed (table_tests n (table_at s.now 0 most_events)) }
 {
     if !is_size(n) {

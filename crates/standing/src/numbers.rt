@@ -14,7 +14,7 @@ use problem::EVENTS;
 const NO_ENTRY: i32 = 2147483647;
 
 // The longest distance.
-const FARTHEST: u32 = 2300023;
+const FARTHEST: u32 = MIDDLE - 1;
 
 // Where the numbers of a day of n events lie.
 pub fn grid(n: usize) -> Grid
@@ -28,7 +28,7 @@ pub fn grid(n: usize) -> Grid
     }
 }
 
-// The number of an entry; of one out of range 0, which is out of range too.
+// The number of an entry; of one out of range 0, which is out of range too (docs/DECISIONS.md, "16 is one test over numbers").
 fn number_of(z: i32) -> u32
     ensures { result ≡ number_of (said z) }
 {
@@ -45,11 +45,7 @@ fn number_of(z: i32) -> u32
 pub fn numbers_of(entries: &[i32; ENTRIES]) -> [u32; ENTRIES]
     ensures { Numbered entries.now result }
 {
-    let mut numbers = [0u32; ENTRIES];
-    for (k, &z) in entries.iter().enumerate() {
-        numbers[k] = number_of(z);
-    }
-    numbers
+    entries.map(number_of)
 }
 
 // The entry of a number.
@@ -67,9 +63,5 @@ fn entry_of(e: u32) -> i32
 pub fn entries_of(numbers: &[u32; ENTRIES]) -> [i32; ENTRIES]
     ensures { result ≡ list_of (most_events * most_events) (λ (k : ℕ). entry_of (distance (at numbers.now k))) }
 {
-    let mut entries = [0i32; ENTRIES];
-    for (k, &e) in numbers.iter().enumerate() {
-        entries[k] = entry_of(e);
-    }
-    entries
+    numbers.map(entry_of)
 }

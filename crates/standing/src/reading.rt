@@ -19,7 +19,7 @@ fn read(day: &Day, timetable: &mut [i32]) -> Result<(), Refusal>
 {
     timetable.fill(NO_TIME);
     let s = numbers_of(&day.entries);
-    day_refusal(&s[..], day.n)?;
+    day_refusal(&s, day.n)?;
     let n = day.n as usize;
     if timetable.len() < n {
         return Err(Refusal::Lent);
@@ -29,7 +29,8 @@ fn read(day: &Day, timetable: &mut [i32]) -> Result<(), Refusal>
     Ok(())
 }
 
-// The n times of the latest timetable, then 1s, and 0; or the refusal 1, 16 or 8, and all 1.
+// The n times of the latest timetable, then 1s, and 0; or the refusal 1, 16 or 8, and all 1. The byte with 0 for none is the papers'
+// (`read_refusal`).
 pub fn read_day(day: Day, timetable: &mut [i32]) -> u8
     ensures value { result ≡ read_refusal day (length timetable.old) }
     ensures timetable_after { timetable.new ≡ times_read day (length timetable.old) (read_refusal day (length timetable.old)) }

@@ -30,15 +30,11 @@ fn fact(arcs: &[Edge], j: usize) -> Fact
     requires { (j < length arcs.now) × (bound (net arcs.now) j < 2 * bias) }
     ensures { (result.x ≡ head (net arcs.now) j) × (result.y ≡ tail (net arcs.now) j) × (result.b ≡ bound (net arcs.now) j) }
 {
-    let arc = arcs[j];
-    Fact {
-        x: arc.x as usize,
-        y: arc.y as usize,
-        b: arc.b,
-    }
+    Fact::of(arcs[j])
 }
 
 // Whether arc j has a timetable with the facts of the table at `base`. n and the arcs come apart: a `Problem` would ask for its whole layout.
+// `base` and n come beside `days`: one slice holds the tables of all positions, and `takes` goes from one of them to another.
 fn fits(days: &[u32], base: usize, n: usize, arcs: &[Edge], j: usize) -> bool
     requires { (base + n * n ≤ length days.now) × Arc (net arcs.now) n j × (j < 2 * most_alternatives) × Held days.now base n }
     ensures { (fs : List Alternative) → DayOf n fs (table_at days.now base n) → result ≡ sound (arc (net arcs.now) j ∷ fs) }
@@ -108,8 +104,8 @@ pub fn takes(
     adds(days, base, to, n, arcs, last)
 }
 
-// Whether no arc from number `from` up to, and without, `end` has a timetable with the facts of the table at `base`. All are looked at: to stop
-// at the first that has one costs more than it saves.
+// Whether no arc from number `from` up to, and without, `end` has a timetable with the facts of the table at `base`. All are looked at: the
+// invariant that stands (proofs/is_dead) follows `dead` arc by arc to the clause's end.
 pub fn is_dead(days: &[u32], base: usize, n: usize, arcs: &[Edge], from: usize, end: usize) -> bool
     requires { (base + n * n ≤ length days.now) × (from ≤ end) × (end ≤ most_alternatives) × ((j : ℕ) → j < end → Arc (net arcs.now) n j) × Held days.now base n }
     ensures { (fs : List Alternative) → DayOf n fs (table_at days.now base n) → result ≡ dead sound fs (arcs_from (net arcs.now) from (end - from)) }

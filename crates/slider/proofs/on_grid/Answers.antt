@@ -1,6 +1,6 @@
 -- `slider::on_grid` meets its contract. Assumes nothing.
-use mathlib.Core.Path.{◌≡◌, sym, ap, ◌∙◌}
-use mathlib.Core.Bool.{Bool, true, false, ◌||◌}
+use mathlib.Core.Path.{◌≡◌, refl, sym, ap, ◌∙◌}
+use mathlib.Core.Bool.{Bool, true, false, not, ◌||◌, ◌&&◌}
 use native.Mathlib.Omega.{arith}
 use lib.Dec.{ltb}
 use borrow.Author.Tests.{lt-ltb, le-ltb}
@@ -10,7 +10,7 @@ use Rattle.slider.specs.declared.Refusal.TheVariants.{Unread}
 use Rattle.slider.specs.Steps.{split_of}
 use Rattle.slider.proofs.Grid.{is_below, is_off, refused_if, grid-split, no-parts}
 use Rattle.slider.proofs.on_grid.Goals as goal
-use Rattle.slider.proofs.on_grid.Goals.{then-p-via-then-p, then-p-via-else-p+then-limit-p, then-p-via-else-p+else-limit-p+then-below}
+use Rattle.slider.proofs.on_grid.Goals.{then-not-both, else-not-both, then-p, else-p, then-p-2-via-then-p-2, then-p-2-via-else-p-2+then-limit-p, then-p-2-via-else-p-2+else-limit-p+then-below}
 
 -- the three tests, one after another
 off-cut : (cut far below : Bool) → cut ≡ true → (cut || (far || below)) ≡ true
@@ -30,15 +30,23 @@ returns-in_err-p c =
     let unread : c.in_err-p.field-0.0 ≡ Unread = grind arith in
     rw (e.1, e.2, unread) (sym (no-parts a.both a.limit a.j a.x none))
 
-pub returns-then-p : goal.returns-then-p
-returns-then-p c =
+pub returns-then-p-2 : goal.returns-then-p-2
+returns-then-p-2 c =
     let a = c.args in
     let p = c.in_ok-p.p in
     let parts_are : split_of a.j a.x ≡ Some p = grind arith in
-    let off : is_off a.both a.limit p ≡ true = elim c.then-p.branch [
-      | then-p-via-then-p w ↦ off-cut p.cut (ltb a.limit p.whole) (is_below a.both p) w.if-p.true
-      | then-p-via-else-p+then-limit-p w ↦ off-far _ _ _ w.if-p.false (lt-ltb a.limit p.whole w.if-limit-p.true)
-      | then-p-via-else-p+else-limit-p+then-below w ↦ off-below _ _ _ w.if-p.false (le-ltb a.limit p.whole w.if-limit-p.false) w.if-below.true
+    let signed_is : c.if-not-both.value ≡ (not a.both && p.neg) = elim c.if-not-both.branch [
+      | then-not-both w ↦ rw w.if-not-both.true w.value-is
+      | else-not-both w ↦ rw w.if-not-both.false (w.value-is ∙ rw w.if-not-both.false refl)
+    ] in
+    let below_is : c.if-p.below ≡ is_below a.both p = rw (← signed_is) (elim c.if-p.branch [
+      | then-p w ↦ rw w.if-p.true w.below-is
+      | else-p w ↦ rw w.if-p.false (w.below-is ∙ w.if-p.false)
+    ]) in
+    let off : is_off a.both a.limit p ≡ true = elim c.then-p-2.branch [
+      | then-p-2-via-then-p-2 w ↦ off-cut p.cut (ltb a.limit p.whole) (is_below a.both p) w.if-p-2.true
+      | then-p-2-via-else-p-2+then-limit-p w ↦ off-far _ _ _ w.if-p-2.false (lt-ltb a.limit p.whole w.if-limit-p.true)
+      | then-p-2-via-else-p-2+else-limit-p+then-below w ↦ off-below _ _ _ w.if-p-2.false (le-ltb a.limit p.whole w.if-limit-p.false) (sym below_is ∙ w.if-below.true)
     ] in
     ap refused_if (sym off) ∙ sym (grid-split a.both a.limit a.j a.x p c.requires.1 parts_are)
 
@@ -47,5 +55,13 @@ returns c =
     let a = c.args in
     let p = c.in_ok-p.p in
     let parts_are : split_of a.j a.x ≡ Some p = grind arith in
-    let on : is_off a.both a.limit p ≡ false = off-below _ _ _ c.if-p.false (le-ltb a.limit p.whole c.if-limit-p.false) c.if-below.false in
+    let signed_is : c.if-not-both.value ≡ (not a.both && p.neg) = elim c.if-not-both.branch [
+      | then-not-both w ↦ rw w.if-not-both.true w.value-is
+      | else-not-both w ↦ rw w.if-not-both.false (w.value-is ∙ rw w.if-not-both.false refl)
+    ] in
+    let below_is : c.if-p.below ≡ is_below a.both p = rw (← signed_is) (elim c.if-p.branch [
+      | then-p w ↦ rw w.if-p.true w.below-is
+      | else-p w ↦ rw w.if-p.false (w.below-is ∙ w.if-p.false)
+    ]) in
+    let on : is_off a.both a.limit p ≡ false = off-below _ _ _ c.if-p-2.false (le-ltb a.limit p.whole c.if-limit-p.false) (sym below_is ∙ c.if-below.false) in
     ap refused_if (sym on) ∙ sym (grid-split a.both a.limit a.j a.x p c.requires.1 parts_are)

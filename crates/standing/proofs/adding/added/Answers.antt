@@ -5,6 +5,8 @@ use mathlib.Core.List.{List, [], ◌∷◌}
 use Prim.Native.Nat.{ℕ, ◌*◌, ◌<◌, ◌≤◌}
 use lib.Dec.{T}
 use lib.IntN.{ℤ}
+use mir.Syntax.{w32}
+use mir.Val.{SFits, to_z, of_z}
 use mir.Facts.{to_z-of_z}
 use Rattle.std.specs.Prelude.{Result, Ok}
 use Rattle.std.proofs.lemmas.Result.{err_from_is_err_and}
@@ -16,6 +18,7 @@ use Rattle.problem.specs.declared.Problem.{Problem}
 use Rattle.problem.specs.Arcs.{Arc, arc, at}
 use Rattle.problem.specs.Laid.{arcs}
 use Rattle.problem.specs.Loaded.{IsLoaded}
+use Rattle.meaning.specs.Screen.{Lent}
 use Rattle.problem.specs.Reads.{given, Reads}
 use Rattle.distances.specs.Adding.{added}
 use Rattle.distances.specs.Numbers.{distance, table_at}
@@ -47,7 +50,24 @@ returns-in_err-p-clause-number c =
     rw (e.1, e.2) (refused-fact a.day.now a.x a.y a.c a.opposite passed _ (fact-is a.day.now a.x a.y a.c passed number) (number-some c.in_err-p.field-0.0))
 
 -- ---- a fact that is to be tried
-module _ (d : Day) (s : List ℕ) (x y c : ℤ) (o : Bool) (p : Problem) (num : Numbered d.entries s) (day-taken : 0 ≡ first_failed (table_tests d.n (table_at s 0 most_events))) (number : 0 ≡ problem_refusal (given d.n (x ∷ y ∷ c ∷ []) (1 ∷ []))) (reads : Reads (given d.n (x ∷ y ∷ c ∷ []) (1 ∷ [])) p) (is : IsLoaded (given d.n (x ∷ y ∷ c ∷ []) (1 ∷ [])) p) where
+-- the alternative as the bits of its three words give it
+abbrev words : ℕ → ℤ → ℤ → ℤ → Lent
+words n x y c = given n (to_z w32 (of_z w32 x) ∷ to_z w32 (of_z w32 y) ∷ to_z w32 (of_z w32 c) ∷ []) (1 ∷ [])
+
+module _ (d : Day) (s : List ℕ) (x y c : ℤ) (o : Bool) (p : Problem) (xs : SFits w32 x) (ys : SFits w32 y) (cs : SFits w32 c) (num : Numbered d.entries s) (day-taken : 0 ≡ first_failed (table_tests d.n (table_at s 0 most_events)))
+    (alternative : (0 ≡ problem_refusal (words d.n x y c)) × Reads (words d.n x y c) p × IsLoaded (words d.n x y c) p) where
+  as-asked : words d.n x y c ≡ given d.n (x ∷ y ∷ c ∷ []) (1 ∷ [])
+  as-asked = rw (to_z-of_z xs, to_z-of_z ys, to_z-of_z cs) refl
+
+  number : 0 ≡ problem_refusal (given d.n (x ∷ y ∷ c ∷ []) (1 ∷ []))
+  number = rw as-asked at alternative.0
+
+  reads : Reads (given d.n (x ∷ y ∷ c ∷ []) (1 ∷ [])) p
+  reads = rw as-asked at alternative.1
+
+  is : IsLoaded (given d.n (x ∷ y ∷ c ∷ []) (1 ∷ [])) p
+  is = rw as-asked at alternative.2
+
   passed : first_failed (day_tests d) ≡ 0
   passed = day-passed d s num day-taken refl
 
@@ -88,25 +108,21 @@ module _ (d : Day) (s : List ℕ) (x y c : ℤ) (o : Bool) (p : Problem) (num : 
 pub tried-requires : goal.tried-requires
 tried-requires c =
     let a = c.args in
-    let q = rw (to_z-of_z c.ranges.x, to_z-of_z c.ranges.y, to_z-of_z c.ranges.c) at c.in_ok-p.ensures in
-    to-try a.day.now _ a.x a.y a.c _ _ c.numbers_of-s.ensures c.in_ok-day_refusal.ensures q.number q.reads q.value c.arc_of.ensures
+    to-try a.day.now _ a.x a.y a.c _ _ c.ranges.x c.ranges.y c.ranges.c c.numbers_of-s.ensures c.in_ok-day_refusal.ensures (c.in_ok-p.ensures.number, c.in_ok-p.ensures.reads, c.in_ok-p.ensures.value) c.arc_of.ensures
 
 pub returns-in_err-numbers-clause-number : goal.returns-in_err-numbers-clause-number
 returns-in_err-numbers-clause-number c =
     let a = c.args in
-    let q = rw (to_z-of_z c.ranges.x, to_z-of_z c.ranges.y, to_z-of_z c.ranges.c) at c.in_ok-p.ensures in
     let e = err_from_is_err_and c.from_residual-in_err-numbers.result c.from_residual-in_err-numbers.ensures.1 in
-    rw (e.1, e.2) (number-is a.day.now _ a.x a.y a.c _ _ c.numbers_of-s.ensures c.in_ok-day_refusal.ensures q.number q.reads q.value c.arc_of.ensures c.in_err-numbers.ensures)
+    rw (e.1, e.2) (number-is a.day.now _ a.x a.y a.c _ _ c.ranges.x c.ranges.y c.ranges.c c.numbers_of-s.ensures c.in_ok-day_refusal.ensures (c.in_ok-p.ensures.number, c.in_ok-p.ensures.reads, c.in_ok-p.ensures.value) c.arc_of.ensures c.in_err-numbers.ensures)
 
 pub returns-clause-number : goal.returns-clause-number
 returns-clause-number c =
     let a = c.args in
-    let q = rw (to_z-of_z c.ranges.x, to_z-of_z c.ranges.y, to_z-of_z c.ranges.c) at c.in_ok-p.ensures in
-    number-is a.day.now _ a.x a.y a.c _ _ c.numbers_of-s.ensures c.in_ok-day_refusal.ensures q.number q.reads q.value c.arc_of.ensures c.in_ok-numbers.ensures
+    number-is a.day.now _ a.x a.y a.c _ _ c.ranges.x c.ranges.y c.ranges.c c.numbers_of-s.ensures c.in_ok-day_refusal.ensures (c.in_ok-p.ensures.number, c.in_ok-p.ensures.reads, c.in_ok-p.ensures.value) c.arc_of.ensures c.in_ok-numbers.ensures
 
 pub returns-clause-value : goal.returns-clause-value
 returns-clause-value c =
     let a = c.args in
-    let q = rw (to_z-of_z c.ranges.x, to_z-of_z c.ranges.y, to_z-of_z c.ranges.c) at c.in_ok-p.ensures in
-    day-is a.day.now _ a.x a.y a.c _ _ c.numbers_of-s.ensures c.in_ok-day_refusal.ensures q.number q.reads q.value c.arc_of.ensures c.in_ok-numbers.ensures
+    day-is a.day.now _ a.x a.y a.c _ _ c.ranges.x c.ranges.y c.ranges.c c.numbers_of-s.ensures c.in_ok-day_refusal.ensures (c.in_ok-p.ensures.number, c.in_ok-p.ensures.reads, c.in_ok-p.ensures.value) c.arc_of.ensures c.in_ok-numbers.ensures
     c.in_ok-numbers.numbers refl c.entries_of.result c.entries_of.ensures

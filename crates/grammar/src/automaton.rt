@@ -317,7 +317,7 @@ fn role_in(r: u8, class: usize) -> u8
 
 impl Transitions {
     // Where the byte b leads from a state; None where it is refused.
-    pub fn step(&self, state: u8, b: u8) -> Option<Move>
+    pub(super) fn step(&self, state: u8, b: u8) -> Option<Move>
         ensures { Moves state b result }
     {
         let row = 256 + state as usize * ROW;

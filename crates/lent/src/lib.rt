@@ -11,6 +11,7 @@ pub fn put_negated(s: &mut [i32], d: &[u32])
     requires by_index { (k : ℕ) → k < length d.now → get_or d.now k 0 < signed_end }
     ensures { s.new ≡ map (λ (m : ℕ). neg_ℤ (pos m)) d.now ++ drop (length d.now) s.old }
 {
+    // By an index: `s.iter_mut().zip(d)` was tried, and does not prove: after it a proof knows the length of `s`, and not its elements.
     for (i, m) in d.iter().enumerate() {
         s[i] = -(*m as i32);
     }

@@ -16,7 +16,7 @@ fn starts_of(counts: &[u32]) -> [u8; STARTS]
     ensures { result ≡ placed 0 (suc most_clauses) (0 ∷ counts.now) }
 {
     let mut starts = [0u8; STARTS];
-    // By an index: `starts[1..].iter_mut().zip(counts)` was tried, and does not prove: after it a proof knows the length, and not the elements.
+    // By an index: `starts[1..].iter_mut().zip(counts)` was tried, and does not prove: a proof then knows the length, and no element.
     for (k, &end) in counts.iter().enumerate() {
         starts[k + 1] = end as u8;
     }

@@ -104,8 +104,8 @@ pub fn takes(
     adds(days, base, to, n, arcs, last)
 }
 
-// Whether no arc from number `from` up to, and without, `end` has a timetable with the facts of the table at `base`. All are looked at: the
-// invariant that stands (proofs/is_dead) follows `dead` arc by arc to the clause's end.
+// Whether no arc from number `from` up to, and without, `end` has a timetable with the facts of the table at `base`. All are looked at, with no
+// way out of the loop: what stopping at the first that has one would gain was not measured.
 pub fn is_dead(days: &[u32], base: usize, n: usize, arcs: &[Edge], from: usize, end: usize) -> bool
     requires { (base + n * n ≤ length days.now) × (from ≤ end) × (end ≤ most_alternatives) × ((j : ℕ) → j < end → Arc (net arcs.now) n j) × Held days.now base n }
     ensures { (fs : List Alternative) → DayOf n fs (table_at days.now base n) → result ≡ dead sound fs (arcs_from (net arcs.now) from (end - from)) }

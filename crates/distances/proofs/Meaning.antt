@@ -31,7 +31,7 @@ same-day n fs d e q day = record { within = day.within; each = λ u v l m. subst
 pub bounded-more : (a : Alternative) → nat_abs a.c ≤ bias → (fs : List Alternative) → ((c : Alternative) → Memᴰ c fs → nat_abs c.c ≤ bias) → (c : Alternative) → Memᴰ c (a ∷ fs) → nat_abs c.c ≤ bias
 bounded-more a small fs k c j = ⊎_elim (λ q. subst (λ (c : Alternative). nat_abs c.c ≤ bias) (sym q) small) (λ q. k c q) (Memᴰ.cases_cons j)
 
-number-bounded : (x y b : ℕ) (a : Alternative) → Stands x y b a → b < 2 * bias → nat_abs a.c ≤ bias
+pub number-bounded : (x y b : ℕ) (a : Alternative) → Stands x y b a → b < 2 * bias → nat_abs a.c ≤ bias
 number-bounded x y b a h hb = rw h.bound (near (one_side (sub_ℕ b bias)))
   where
     near : (up (sub_ℕ b bias) ≡ 0) ⊎ (down (sub_ℕ b bias) ≡ 0) → nat_abs (sub_ℕ b bias) ≤ bias

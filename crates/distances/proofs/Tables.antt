@@ -11,7 +11,7 @@ use lib.ListN.{length}
 use Rattle.laws.proofs.Order.{lt-or-ge}
 use Rattle.problem.specs.Arcs.{at}
 use Rattle.distances.specs.Numbers.{shift, lowered, turn}
-use Rattle.distances.specs.Rows.{Clear, Beside, Outside, RowLowered, new_number, Room, apart, in_place, Extended}
+use Rattle.distances.specs.Rows.{Clear, Outside, RowLowered, new_number, Room, apart, in_place, Extended}
 use Rattle.distances.proofs.Numbers.{place, lowered-self}
 
 -- the first u rows are extended; the others, and the row of the fact's end, are still to be read as they were
@@ -30,11 +30,7 @@ row-past w i j l = omega (arith, mul-le-mul_right w (let h : suc i ≤ j = l in 
 pub row_in : (row u w n : ℕ) → row ≡ u * w → u < n → row + w ≤ n * w
 row_in row u w n e l = omega (arith, row-past w u n l, e)
 
--- what lies beside the table is outside it, and so is what lies past its rows' entries
-pub beside-outside : (k to w n : ℕ) → n ≤ w → Beside k to (n * w) → Outside k to w n
-beside-outside k to w n wide (inl b) u v l m e = omega arith
-beside-outside k to w n wide (inr b) u v l m e = omega (arith, place n w u v l (omega arith))
-
+-- an entry for an event past the last is outside it
 pub past-outside : (to w n u v : ℕ) → n ≤ w → v < w → (n ≤ u) ⊎ (n ≤ v) → Outside (to + (u * w + v)) to w n
 past-outside to w n u v wide a o i j l m e = go (same_from_place u v i j w a (omega arith) (omega arith)) o
   where

@@ -1,98 +1,72 @@
--- One fact more, and the facts of a position, table by table. Assumes nothing.
-use Rattle.std.specs.Prelude.{Option, None, Some}
-use mathlib.Core.Path.{◌≡◌, refl, sym, ◌∙◌, subst}
-use mathlib.Core.Bool.{Bool, true, false, false≢true}
-use mathlib.Core.List.{List, ◌∷◌}
-use Prim.Native.Nat.{ℕ, ◌+◌, ◌-◌, ◌*◌, ◌<◌, ◌≤◌}
-use native.Mathlib.Omega.{arith}
-use borrow.Author.Tests.{leb-true}
-use lib.ListN.{length}
+-- One fact more: a number tells whether it fits, and the lowered table is the day with it. Assumes nothing.
+use mathlib.Core.Path.{◌≡◌, refl, sym, ap, ap₂, ◌∙◌, subst}
+use mathlib.Core.Bool.{true}
+use mathlib.Core.Logic.{⊎_elim}
+use mathlib.Core.List.Memᴰ
+use mathlib.Core.List.{List, ◌∷◌, ◌++◌}
+use Prim.Native.Nat.{ℕ, ◌+◌, ◌*◌, ◌<◌, ◌≤◌}
+use lib.Dec.{T, leb}
+use lib.IntN.{nat_abs, sub_ℕ}
+use Rattle.laws.proofs.Tests.{is_true}
+use Rattle.meaning.specs.Limits.{most_events}
 use Rattle.meaning.specs.Problem.{Alternative}
 use Rattle.meaning.specs.Decision.{sound}
-use Rattle.problem.specs.Arcs.{Net, at, arc}
-use Rattle.distances.specs.Distances.{DayOf}
-use Rattle.distances.specs.Numbers.{turn, table_at, Stands, Holds}
-use Rattle.distances.specs.Rows.{Beside, Room, apart as roomApart, in_place, Extended}
-use Rattle.distances.proofs.Tables.{beside-outside}
-use Rattle.distances.proofs.Meaning.{fits-means}
-use Rattle.taking.specs.Taking.{passed, taken, Before, apart, here, Held, Adds, Passes}
-use Rattle.taking.proofs.Passing.{passed_none, passed-more, unsound-first, unsound-taken}
+use Rattle.meaning.proofs.Settling.{In}
+use Rattle.problem.specs.Arcs.{bias}
+use Rattle.distances.specs.Distances.{far, DayOf}
+use Rattle.distances.specs.Adding.{closes, fits, added}
+use Rattle.distances.specs.Numbers.{Stands}
+use Rattle.distances.proofs.Updating.{added-day}
+use Rattle.distances.proofs.Timetables.{fits-sound, day-sound as timetable-sound}
+use Rattle.distances.proofs.Walking.{satisfies-member, members-satisfied}
+use Rattle.meaning.proofs.Deciding.{sound-decides}
+use Rattle.distances.proofs.Meaning.{same-day, bounded-more, number-bounded}
+use Rattle.taking.specs.Spans.{spans}
+use Rattle.taking.specs.Tables.{level, turn, entry, distances_in, IsDay, WithFact}
+use Rattle.taking.proofs.Spans.{sound-spanned, spanned-near}
+use Rattle.taking.proofs.Numbers.{near_of, fits-number, lowering}
 
--- ---- one fact more
-module _ (r : List ℕ) (from to n : ℕ) (a : Alternative) (ok : Bool) (decides : (fs : List Alternative) → DayOf n fs (table_at r from n) → ok ≡ sound (a ∷ fs)) where
-  module _ (e : ok ≡ true) (x y b : ℕ) where
-    -- a fact that was found to fit may be added to the day, in place too
-    pub room_for : Stands x y b a → x < n → y < n → Held r from n → Before from to n → Room r from to n n x y b
-    room_for stands l m held before = go before
-      where
-        enough : turn ≤ at r (from + (x * n + y)) + b
-        enough = leb-true turn (at r (from + (x * n + y)) + b) (fits-means r from n n x y b a stands l m held.fs held.holds.day ∙ sym (decides held.fs held.holds.day) ∙ e)
+-- a fact is as sound with the facts of a day as with these and the spans
+pub with-spans : (w : ℕ) → w ≤ most_events → (fs : List Alternative) (t : List (List ℕ)) → IsDay w fs t → (a : Alternative) → In w a → nat_abs a.c ≤ bias → sound (a ∷ (fs ++ spans w)) ≡ sound (a ∷ fs)
+with-spans w few fs t h a inside bounded =
+    sound-spanned w (a ∷ fs) few
+    (λ c j. ⊎_elim (λ q. subst (In w) (sym q) inside) (λ q. h.day.within c (Memᴰ.append_left (spans w) q)) (Memᴰ.cases_cons j))
+    (bounded-more a bounded fs h.bounded)
 
-        go : Before from to n → Room r from to n n x y b
-        go (apart h) = roomApart h
-        go (here q) = in_place q enough
+module _ (w : ℕ) (few : w ≤ most_events) (fs : List Alternative) (t : List (List ℕ)) (h : IsDay w fs t) (x y b : ℕ) (a : Alternative) (stands : Stands x y b a) (l : x < w) (m : y < w) (small : b < 2 * bias) where
+  inside : In w a
+  inside = (subst (λ (i : ℕ). i < w) (sym stands.first) l, subst (λ (i : ℕ). i < w) (sym stands.second) m)
 
-    pub adds_one : (s : List ℕ) → Extended r s from to n n x y b → ((fs : List Alternative) → Holds r from n n fs → sound (a ∷ fs) ≡ true → Holds s to n n (a ∷ fs)) → Adds r s from to n (λ fs. a ∷ fs) true
-    adds_one s extended day =
-        record {
-          long = extended.long;
-          rest = λ k h. extended.rest k (beside-outside k to n n (omega arith) h);
-          decides = λ fs h. sym e ∙ decides fs h.day;
-          day = λ t fs h. day fs h (sym (decides fs h.day) ∙ e);
-        }
+  bounded : nat_abs a.c ≤ bias
+  bounded = number-bounded x y b a stands small
 
--- ---- the facts of a position
--- an alternative that does not fit by itself fits in no position
-pub takes_none : (r : List ℕ) (from to n : ℕ) (g : Net) (first last : ℕ) (ok : Bool) → ((fs : List Alternative) → DayOf n fs (table_at r from n) → ok ≡ sound (arc g last ∷ fs)) → ok ≡ false → Adds r r from to n (taken g first last) false
-takes_none r from to n g first last ok decides e =
-    record {
-      long = refl;
-      rest = λ k h. refl;
-      decides = λ fs h. sym (unsound-first g first last fs (sym (decides fs h.day) ∙ e));
-      day = λ t. absurd (false≢true t);
-    }
+  spanned : sound (a ∷ (fs ++ spans w)) ≡ sound (a ∷ fs)
+  spanned = with-spans w few fs t h a inside bounded
 
--- the opposites before alternative j are taken, in the table `base`
-pub record Taking (r s : List ℕ) (from to n : ℕ) (g : Net) (first j base : ℕ) : Type 0 where
-  pub long : length s ≡ length r
-  pub rest : (k : ℕ) → Beside k to (n * n) → at s k ≡ at r k
-  pub before : Before base to n
-  pub day : (fs : List Alternative) → Holds r from n n fs → Holds s base n n (passed g first (j - first) fs)
+  fits-is : leb turn (entry t x y + b) ≡ fits a (distances_in t)
+  fits-is = fits-number (entry t x y) b ∙ ap₂ closes (ap₂ (λ (i j : ℕ). distances_in t i j) (sym stands.first) (sym stands.second)) (sym stands.bound)
 
-module _ (r : List ℕ) (from to n : ℕ) (g : Net) (first : ℕ) where
-  pub taking-none : from + n * n ≤ to → Taking r r from to n g first first from
-  taking-none l =
-      record {
-        long = refl;
-        rest = λ k h. refl;
-        before = apart l;
-        day = λ fs h. subst (Holds r from n n) (sym (passed_none g first fs)) h;
-      }
+  -- the one number that is looked at says whether the fact has a timetable with the others
+  pub fits-means : leb turn (entry t x y + b) ≡ sound (a ∷ fs)
+  fits-means = fits-is ∙ fits-sound w (fs ++ spans w) (distances_in t) h.day a inside ∙ spanned
 
-  module _ (s : List ℕ) (j base : ℕ) (t : Taking r s from to n g first j base) where
-    pub taking-more : (z : List ℕ) {p : Option ℕ} (with : ℕ) → first ≤ j → p ≡ Some with → Passes s z base to n g j p → Taking r z from to n g first (j + 1) with
-    taking-more z with l e a =
-        record {
-          long = a.long ∙ t.long;
-          rest = λ k h. a.rest k h ∙ t.rest k h;
-          before = a.before with e;
-          day = λ fs h. subst (Holds z with n n) (passed-more g first j fs l) (a.day with e (passed g first (j - first) fs) (t.day fs h));
-        }
+  -- the lowered table is the day with the fact, where that fits: its numbers stand for the lowered distances, and these are near again
+  pub with-fact : (s : List (List ℕ)) → WithFact w t s x y b → sound (a ∷ fs) ≡ true → IsDay w (a ∷ fs) s
+  with-fact s each e = record { day = new; near = λ u v i j. near_of (entry s u v) (spanned-near w (a ∷ fs) (distances_in s) new u v i j (sub_ℕ (entry s u v) level) refl); bounded = bounded-more a bounded fs h.bounded }
+    where
+      same : (u v : ℕ) → u < w → v < w → distances_in s u v ≡ added a (distances_in t) u v
+      same u v i j = unfold added in
+          rw (stands.first, stands.second, stands.bound)
+          (ap (λ (e : ℕ). far (sub_ℕ e level)) (each u v i j)
+          ∙ lowering (entry t u v) (entry t u y) (entry t x v) b (h.near u y i m) (h.near x v l j))
 
-    pub taking-fails : (z : List ℕ) (last : ℕ) {p : Option ℕ} → first ≤ j → j < last → p ≡ None → Passes s z base to n g j p → Adds r z from to n (taken g first last) false
-    taking-fails z last l m e a =
-        record {
-          long = a.long ∙ t.long;
-          rest = λ k h. a.rest k h ∙ t.rest k h;
-          decides = λ fs h. sym (unsound-taken g first j last fs l m (a.fails e (passed g first (j - first) fs) (t.day fs h)));
-          day = λ q. absurd (false≢true q);
-        }
+      new : DayOf w (a ∷ (fs ++ spans w)) (distances_in s)
+      new =
+          same-day w (a ∷ (fs ++ spans w)) (added a (distances_in t)) (distances_in s) same
+          (added-day w (fs ++ spans w) (distances_in t) h.day a inside (subst T (sym (fits-sound w (fs ++ spans w) (distances_in t) h.day a inside ∙ spanned ∙ e)) tt))
 
-    pub taking-ends : (z : List ℕ) (ok : Bool) → Adds s z base to n (λ fs. arc g j ∷ fs) ok → Adds r z from to n (taken g first j) ok
-    taking-ends z ok a =
-        record {
-          long = a.long ∙ t.long;
-          rest = λ k h. a.rest k h ∙ t.rest k h;
-          decides = λ fs h. a.decides (passed g first (j - first) fs) (t.day fs h);
-          day = λ e fs h. a.day e (passed g first (j - first) fs) (t.day fs h);
-        }
+-- the facts of a day are sound
+pub day-sound : (w : ℕ) (fs : List Alternative) (t : List (List ℕ)) → IsDay w fs t → sound fs ≡ true
+day-sound w fs t h =
+    let (times, kept) = timetable-sound w (fs ++ spans w) (distances_in t) h.day in
+    is_true (sound fs) (sound-decides.whole fs times (members-satisfied times fs (λ a m. satisfies-member times (fs ++ spans w) a kept (Memᴰ.append_left (spans w) m))))

@@ -1,9 +1,9 @@
 -- The opposite of an unsound alternative is implied: a day of the facts is a day with it. Assumes nothing.
 use mathlib.Core.Path.{◌≡◌, sym, ◌∙◌, subst}
-use mathlib.Core.Bool.{Bool, false, true≢false}
+use mathlib.Core.Bool.{false, true≢false}
 use mathlib.Core.Logic.{⊎_elim}
 use mathlib.Core.List.Memᴰ
-use mathlib.Core.List.{List, ◌∷◌, Memᴰ}
+use mathlib.Core.List.{List, ◌∷◌, ◌++◌, Memᴰ}
 use Prim.Native.Nat.{ℕ, zero, suc, ◌+◌, ◌<◌, ◌≤◌}
 use native.Mathlib.Decide.{dec_lt}
 use native.Mathlib.Omega.{arith}
@@ -16,12 +16,16 @@ use Rattle.meaning.specs.Decision.{sound}
 use Rattle.problem.specs.Arcs.{bias}
 use Rattle.distances.specs.Distances.{Walk, stay, onward, Distance, none, far, AtMost, most, Table, DayOf}
 use Rattle.distances.specs.Adding.{no_longer, and_then, closes}
-use Rattle.distances.specs.Numbers.{table_at, Holds}
 use Rattle.distances.proofs.Distances.{at-most-more}
 use Rattle.distances.proofs.Walking.{over-more, joined, shown}
 use Rattle.distances.proofs.Updating.{itself, step}
 use Rattle.distances.proofs.Timetables.{fits-sound}
 use Rattle.distances.proofs.Meaning.{bounded-more}
+use Rattle.meaning.specs.Limits.{most_events}
+use Rattle.meaning.proofs.Settling.{In}
+use Rattle.taking.specs.Spans.{spans}
+use Rattle.taking.specs.Tables.{distances_in, IsDay}
+use Rattle.taking.proofs.Adding.{with-spans}
 
 pred-law : (w : ℤ) → up (pred_ℤ w) + down w + 1 ≡ up w + down (pred_ℤ w)
 pred-law (pos zero) = omega arith
@@ -73,11 +77,11 @@ module _ (n : ℕ) (fs : List Alternative) (d : Table) (day : DayOf n fs d) wher
           };
         }
 
--- the table that is the day of the facts is the day with the opposite b of an alternative a that was found not to fit
-pub implied-holds : (s : List ℕ) (base n : ℕ) (a b : Alternative) → opposite a ≡ b → (a.x < n) × (a.y < n) → (b.x < n) × (b.y < n) → nat_abs b.c ≤ bias → (ok : Bool) → ((fs : List Alternative) → DayOf n fs (table_at s base n) → ok ≡ sound (a ∷ fs)) → ok ≡ false → (fs : List Alternative) → Holds s base n n fs → Holds s base n n (b ∷ fs)
-implied-holds s base n a b q i j small ok decides e fs h =
+-- the table that is the day of the facts is the day with the opposite b of an alternative a that has no timetable with them
+pub implied-holds : (w : ℕ) → w ≤ most_events → (fs : List Alternative) (t : List (List ℕ)) → IsDay w fs t → (a b : Alternative) → opposite a ≡ b → In w a → nat_abs a.c ≤ bias → nat_abs b.c ≤ bias → sound (a ∷ fs) ≡ false → IsDay w (b ∷ fs) t
+implied-holds w few fs t h a b q i least small e =
     record {
-      day = implied-day n fs (table_at s base n) h.day b j (subst (λ (b : Alternative). AtMost (table_at s base n b.y b.x) b.c) q (implied n fs (table_at s base n) h.day a i (sym (decides fs h.day) ∙ e)));
-      ranged = h.ranged;
+      day = implied-day w (fs ++ spans w) (distances_in t) h.day b (subst (In w) q (unfold opposite in (i.1, i.0))) (subst (λ (b : Alternative). AtMost (distances_in t b.y b.x) b.c) q (implied w (fs ++ spans w) (distances_in t) h.day a i (with-spans w few fs t h a i least ∙ e)));
+      near = h.near;
       bounded = bounded-more b small fs h.bounded;
     }

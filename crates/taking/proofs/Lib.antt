@@ -1,5 +1,9 @@
-pub mod Lying
-pub mod Passing
-pub mod Implied
+pub mod Spans
+pub mod Numbers
 pub mod Adding
+pub mod Rows
+pub mod Implied
+pub mod Passing
 pub mod Dying
+pub mod Taking
+pub mod Closing

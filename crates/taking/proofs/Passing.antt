@@ -51,13 +51,12 @@ module _ (g : Net) where
       ap (λ (k : ℕ). sound (passed g j k fs)) (let q : suc d + i ≡ suc (d + i) = omega arith in q)
       ∙ unsound-more (arc g (opposite_from + (j + (d + i)))) (passed g j (d + i) fs) (unsound-on j i d fs e)
 
-  -- an opposite on the way that does not fit makes the position unsound: its facts hold that opposite and all before it, and what is
-  -- added after an unsound set leaves it unsound
-  pub unsound-taken : (first j last : ℕ) (fs : List Alternative) → first ≤ j → j < last → sound (arc g (opposite_from + j) ∷ passed g first (j - first) fs) ≡ false → sound (taken g first last fs) ≡ false
-  unsound-taken first j last fs h l e =
-      unsound-more (arc g last) (passed g first (last - first) fs)
-      (ap (λ (k : ℕ). sound (passed g first k fs)) (let q : last - first ≡ last - (j + 1) + (j + 1 - first) = omega arith in q)
-      ∙ unsound-on first (j + 1 - first) (last - (j + 1)) fs (ap sound (sym (passed-more first j fs h)) ∙ e))
+  -- an opposite on the way that does not fit makes all of them unsound: they hold that opposite and all before it, and what is added after an unsound
+  -- set leaves it unsound
+  pub unsound-passed : (first j last : ℕ) (fs : List Alternative) → first ≤ j → j < last → sound (arc g (opposite_from + j) ∷ passed g first (j - first) fs) ≡ false → sound (passed g first (last - first) fs) ≡ false
+  unsound-passed first j last fs h l e =
+      ap (λ (k : ℕ). sound (passed g first k fs)) (let q : last - first ≡ last - (j + 1) + (j + 1 - first) = omega arith in q)
+      ∙ unsound-on first (j + 1 - first) (last - (j + 1)) fs (ap sound (sym (passed-more first j fs h)) ∙ e)
 
   -- the opposites by the first of them
   pub passed-front : (j i : ℕ) (fs : List Alternative) → passed g (suc j) i (arc g (opposite_from + j) ∷ fs) ≡ passed g j (suc i) fs

@@ -1,1 +1,3 @@
+pub mod Spans
+pub mod Tables
 pub mod Taking

@@ -1,11 +1,11 @@
--- The facts of a position of a clause, added to a day that lies in a lent list, n rows of n entries from a place on. Definitions only.
-use Rattle.std.specs.Prelude.{◌≡◌, Bool, true, false, Option, None, Some, List, ◌∷◌, ℕ, zero, suc, ◌+◌, ◌-◌, ◌*◌, ◌<◌, ◌≤◌, length}
+-- The facts of a position of a clause, added to the day at a depth. Definitions only.
+use Rattle.std.specs.Prelude.{◌≡◌, Bool, true, false, Option, None, Some, List, ◌∷◌, ℕ, zero, suc, ◌+◌, ◌-◌, ◌<◌, ◌≤◌, length, ℤ, pos, ◌+ℤ◌, ◌≤ℤ◌}
 use Rattle.meaning.specs.Limits.{opposite_from}
 use Rattle.meaning.specs.Problem.{Alternative, opposite}
 use Rattle.meaning.specs.Decision.{sound}
-use Rattle.problem.specs.Arcs.{Net, at, arc, Arc}
-use Rattle.distances.specs.Numbers.{Holds}
-use Rattle.distances.specs.Rows.{Beside}
+use Rattle.problem.specs.Arcs.{Net, head, tail, arc, Arc}
+use Rattle.distances.specs.Distances.{Walk}
+use Rattle.taking.specs.Tables.{IsDay, table_at, Beside}
 
 -- ---- the facts
 -- the facts, and before them the opposites of i arcs from number j on, the last one foremost
@@ -25,28 +25,21 @@ pub record Arcs (g : Net) (n last : ℕ) : Type 0 where
   pub opposites : (j : ℕ) → j ≤ last → opposite (arc g j) ≡ arc g (opposite_from + j)
 
 -- ---- the tables
--- the table is the day of some facts
-pub record Held (s : List ℕ) (base n : ℕ) : Type 0 where
-  pub fs : List Alternative
-  pub holds : Holds s base n n fs
+-- whatever facts the table at depth `from` is the day of: whether they are sound with more facts, and the table at depth `to` is then the day of all; no other
+-- table has changed
+pub record Adds (w : ℕ) (r s : List (List (List ℕ))) (from to : ℕ) (more : List Alternative → List Alternative) (ok : Bool) : Type 0 where
+  pub beside : Beside r s to
+  pub decides : (fs : List Alternative) → IsDay w fs (table_at r from) → ok ≡ sound (more fs)
+  pub day : ok ≡ true → (fs : List Alternative) → IsDay w fs (table_at r from) → IsDay w (more fs) (table_at s to)
 
--- the old table lies before the new one, or is it
-pub data Before (from to n : ℕ) : Type 0 where
-  apart : from + n * n ≤ to → Before from to n
-  here : from ≡ to → Before from to n
+-- the same, with the depth at which the table with more facts lies, `from` or `to`, if they are sound; they may be implied, so that nothing was added
+pub record Passes (w : ℕ) (r s : List (List (List ℕ))) (from to : ℕ) (more : List Alternative → List Alternative) (passed : Option ℕ) : Type 0 where
+  pub beside : Beside r s to
+  pub room : (with : ℕ) → passed ≡ Some with → with < length s
+  pub fails : passed ≡ None → (fs : List Alternative) → IsDay w fs (table_at r from) → sound (more fs) ≡ false
+  pub day : (with : ℕ) → passed ≡ Some with → (fs : List Alternative) → IsDay w fs (table_at r from) → IsDay w (more fs) (table_at s with)
 
--- whatever facts the table `from` is the day of: whether they are sound with more facts, and the table `to` is then the day of all; no number beside it has changed
-pub record Adds (r s : List ℕ) (from to n : ℕ) (more : List Alternative → List Alternative) (ok : Bool) : Type 0 where
-  pub long : length s ≡ length r
-  pub rest : (k : ℕ) → Beside k to (n * n) → at s k ≡ at r k
-  pub decides : (fs : List Alternative) → Holds r from n n fs → ok ≡ sound (more fs)
-  pub day : ok ≡ true → (fs : List Alternative) → Holds r from n n fs → Holds s to n n (more fs)
-
--- the opposite of alternative j, where it is sound, was added to the table `base` or is implied by its facts; the table with it is the one at `to`, or lies before it
-pub record Passes (r s : List ℕ) (base to n : ℕ) (g : Net) (j : ℕ) (passed : Option ℕ) : Type 0 where
-  pub long : length s ≡ length r
-  pub rest : (k : ℕ) → Beside k to (n * n) → at s k ≡ at r k
-  pub before : (with : ℕ) → passed ≡ Some with → Before with to n
-  pub room : (with : ℕ) → passed ≡ Some with → with + n * n ≤ length s
-  pub fails : passed ≡ None → (fs : List Alternative) → Holds r base n n fs → sound (arc g (opposite_from + j) ∷ fs) ≡ false
-  pub day : (with : ℕ) → passed ≡ Some with → (fs : List Alternative) → Holds r base n n fs → Holds s with n n (arc g (opposite_from + j) ∷ fs)
+-- ---- facts aside
+-- fact j lies on no closed walk below 0 that passes through arc a once: whichever way leads from a's head to its tail, and from its head back to a's tail
+pub record Aside (g : Net) (fs : List Alternative) (a j : ℕ) : Type 0 where
+  pub each : (s r : ℤ) → Walk fs (head g a) (tail g j) s → Walk fs (head g j) (tail g a) r → pos 0 ≤ℤ (s +ℤ (arc g j).c +ℤ (r +ℤ (arc g a).c))

@@ -1,29 +1,25 @@
-// Positions of clauses taken on the days of facts, tables of distances in a lent slice: the table of a day with a position's facts, and whether
-// a clause is dead under a day.
+// Positions of clauses taken on the days of facts, tables of distances in a lent slice, one for each depth: the table of a day with a position's facts,
+// whether a clause is dead under a day, and whether two facts may lie on one closed walk below 0.
 #![tactic(auto)]
 
-ghost use Rattle.std.specs.Prelude.{◌≡◌, List, ◌∷◌, ℕ, ◌+◌, ◌-◌, ◌*◌, ◌<◌, ◌≤◌, length};
+mod table;
+
+ghost use Rattle.std.specs.Prelude.{◌≡◌, false, List, ◌∷◌, ℕ, ◌+◌, ◌-◌, ◌*◌, ◌<◌, ◌≤◌, length};
 ghost use Rattle.meaning.specs.Limits.{most_events, most_alternatives, opposite_from};
 ghost use Rattle.meaning.specs.Problem.{Alternative, opposite};
 ghost use Rattle.meaning.specs.Decision.{sound};
 ghost use Rattle.meaning.specs.Search.{dead};
 ghost use Rattle.problem.specs.Arcs.{bias, net, head, tail, bound, arc, Arc, arcs_from};
-ghost use Rattle.distances.specs.Distances.{DayOf};
-ghost use Rattle.distances.specs.Numbers.{table_at};
-ghost use Rattle.taking.specs.Taking.{taken, Before, Adds, Arcs, Held, Passes};
+ghost use Rattle.taking.specs.Tables.{IsDay, Held, table_at, Tall};
+ghost use Rattle.taking.specs.Taking.{passed, taken, Arcs, Adds, Passes, Aside};
 
-use distances::{Fact, Grid, extend, fits_with};
+use distances::Fact;
 use problem::{ALTERNATIVES, Edge};
+pub use table::begin;
+use table::{TURN, extend, fits, way_through};
 
 // The number by which an opposite follows its alternative.
 const OPPOSITE_FROM: usize = ALTERNATIVES;
-
-// The table of n rows of n entries from place `base` on.
-fn table(base: usize, n: usize) -> Grid
-    ensures { (result.base ≡ base) × (result.w ≡ n) × (result.n ≡ n) }
-{
-    Grid { base, w: n, n }
-}
 
 // Arc j as a fact.
 fn fact(arcs: &[Edge], j: usize) -> Fact
@@ -33,86 +29,116 @@ fn fact(arcs: &[Edge], j: usize) -> Fact
     Fact::of(arcs[j])
 }
 
-// Whether arc j has a timetable with the facts of the table at `base`. n and the arcs come apart: a `Problem` would ask for its whole layout.
-// `base` and n come beside `days`: one slice holds the tables of all positions, and `takes` goes from one of them to another.
-fn fits(days: &[u32], base: usize, n: usize, arcs: &[Edge], j: usize) -> bool
-    requires { (base + n * n ≤ length days.now) × Arc (net arcs.now) n j × (j < 2 * most_alternatives) × Held days.now base n }
-    ensures { (fs : List Alternative) → DayOf n fs (table_at days.now base n) → result ≡ sound (arc (net arcs.now) j ∷ fs) }
+// Whether arc j has a timetable with the facts of the day.
+fn allows<const W: usize>(day: &[[u32; W]; W], arcs: &[Edge], j: usize) -> bool
+    requires { (W ≤ most_events) × Arc (net arcs.now) W j × Held W day.now }
+    ensures { (fs : List Alternative) → IsDay W fs day.now → result ≡ sound (arc (net arcs.now) j ∷ fs) }
 {
-    fits_with(days, table(base, n), fact(arcs, j))
+    fits(day, fact(arcs, j))
 }
 
-// The table at `to` becomes the table at `from` with arc j, where that has a timetable with its facts; whether it has.
-fn adds(days: &mut [u32], from: usize, to: usize, n: usize, arcs: &[Edge], j: usize) -> bool
-    requires { (from + n * n ≤ length days.old) × (to + n * n ≤ length days.old) × (n ≤ most_events) × Arc (net arcs.now) n j × Before from to n × (j < 2 * most_alternatives) × Held days.old from n }
-    ensures { Adds days.old days.new from to n (λ fs. arc (net arcs.now) j ∷ fs) result }
+// The table at depth `to` becomes the table at depth `from` with arc j, where that has a timetable with its facts; whether it has.
+fn adds<const W: usize>(
+    days: &mut [[[u32; W]; W]],
+    from: usize,
+    to: usize,
+    arcs: &[Edge],
+    j: usize,
+) -> bool
+    requires { (W ≤ most_events) × (from < length days.old) × (to < length days.old) × Tall W days.old × Arc (net arcs.now) W j × Held W (table_at days.old from) }
+    ensures { Adds W days.old days.new from to (λ fs. arc (net arcs.now) j ∷ fs) result }
 {
-    if !fits(days, from, n, arcs, j) {
+    if !allows(&days[from], arcs, j) {
         return false;
     }
-    extend(days, table(from, n), to, fact(arcs, j));
+    extend(days, from, to, fact(arcs, j));
     true
 }
 
-// The opposite of alternative j is added to the table at `base`, which is then the one at `to`; where the alternative is unsound, its opposite
-// is implied, and nothing changes. Where the table lies that has the opposite, unless that is unsound.
-fn passes(
-    days: &mut [u32],
+// The opposite of alternative j is added to the table at depth `base`, which is then the one at `to`; where the alternative is unsound, its opposite
+// is implied, and nothing changes. At which depth the table with the opposite lies, unless that is unsound.
+fn passes<const W: usize>(
+    days: &mut [[[u32; W]; W]],
     base: usize,
     to: usize,
-    n: usize,
     arcs: &[Edge],
     j: usize,
 ) -> Option<usize>
-    requires { (base + n * n ≤ length days.old) × (to + n * n ≤ length days.old) × (n ≤ most_events) × Arc (net arcs.now) n j × Arc (net arcs.now) n (opposite_from + j) × (opposite (arc (net arcs.now) j) ≡ arc (net arcs.now) (opposite_from + j)) × (j < most_alternatives) × Before base to n × Held days.old base n }
-    ensures { Passes days.old days.new base to n (net arcs.now) j result }
+    requires { (W ≤ most_events) × (base < length days.old) × (to < length days.old) × Tall W days.old × Arcs (net arcs.now) W j × Held W (table_at days.old base) }
+    ensures { Passes W days.old days.new base to (λ fs. arc (net arcs.now) (opposite_from + j) ∷ fs) result }
 {
-    if !fits(days, base, n, arcs, j) {
+    if !allows(&days[base], arcs, j) {
         return Some(base);
     }
-    if adds(days, base, to, n, arcs, OPPOSITE_FROM + j) {
+    if adds(days, base, to, arcs, OPPOSITE_FROM + j) {
         Some(to)
     } else {
         None
     }
 }
 
-// The table at `to` becomes the table at `from` with the alternative `last` of a clause and the opposites of those before it, from `first` on,
-// where they are sound; whether they are. The alternative is looked up in the table at `from` first: mostly that settles it.
-pub fn takes(
-    days: &mut [u32],
+// The opposites of the alternatives from number `first` up to, and without, `last` are added to the table at depth `from`. At which depth the table with
+// them lies, `from` or `to`, unless one of them is unsound.
+pub fn passes_all<const W: usize>(
+    days: &mut [[[u32; W]; W]],
     from: usize,
     to: usize,
-    n: usize,
+    arcs: &[Edge],
+    first: usize,
+    last: usize,
+) -> Option<usize>
+    requires { (W ≤ most_events) × (from < length days.old) × (to < length days.old) × Tall W days.old × (first ≤ last) × Arcs (net arcs.now) W last × Held W (table_at days.old from) }
+    ensures { Passes W days.old days.new from to (passed (net arcs.now) first (last - first)) result }
+{
+    let mut base = from;
+    for j in first..last {
+        base = passes(days, base, to, arcs, j)?;
+    }
+    Some(base)
+}
+
+// The table at depth `to` becomes the table at depth `from` with the alternative `last` of a clause and the opposites of those before it, from `first` on,
+// where they are sound; whether they are. The alternative is looked up in the table at `from` first: mostly that settles it.
+pub fn takes<const W: usize>(
+    days: &mut [[[u32; W]; W]],
+    from: usize,
+    to: usize,
     arcs: &[Edge],
     first: usize,
     last: usize,
 ) -> bool
-    requires { (to + n * n ≤ length days.old) × (from + n * n ≤ to) × (n ≤ most_events) × (first ≤ last) × Arcs (net arcs.now) n last × Held days.old from n }
-    ensures { Adds days.old days.new from to n (taken (net arcs.now) first last) result }
+    requires { (W ≤ most_events) × (from < length days.old) × (to < length days.old) × Tall W days.old × (first ≤ last) × Arcs (net arcs.now) W last × Held W (table_at days.old from) }
+    ensures { Adds W days.old days.new from to (taken (net arcs.now) first last) result }
 {
-    if !fits(days, from, n, arcs, last) {
+    if !allows(&days[from], arcs, last) {
         return false;
     }
-    let mut base = from;
-    for j in first..last {
-        let Some(with) = passes(days, base, to, n, arcs, j) else {
-            return false;
-        };
-        base = with;
+    match passes_all(days, from, to, arcs, first, last) {
+        Some(base) => adds(days, base, to, arcs, last),
+        None => false,
     }
-    adds(days, base, to, n, arcs, last)
 }
 
-// Whether no arc from number `from` up to, and without, `end` has a timetable with the facts of the table at `base`. All are looked at, with no
-// way out of the loop: what stopping at the first that has one would gain was not measured.
-pub fn is_dead(days: &[u32], base: usize, n: usize, arcs: &[Edge], from: usize, end: usize) -> bool
-    requires { (base + n * n ≤ length days.now) × (from ≤ end) × (end ≤ most_alternatives) × ((j : ℕ) → j < end → Arc (net arcs.now) n j) × Held days.now base n }
-    ensures { (fs : List Alternative) → DayOf n fs (table_at days.now base n) → result ≡ dead sound fs (arcs_from (net arcs.now) from (end - from)) }
+// Whether no arc from number `from` up to, and without, `end` has a timetable with the facts of the day. All are looked at: a way out of the loop costs
+// more than a look.
+pub fn is_dead<const W: usize>(day: &[[u32; W]; W], arcs: &[Edge], from: usize, end: usize) -> bool
+    requires { (W ≤ most_events) × (from ≤ end) × (end ≤ most_alternatives) × ((j : ℕ) → j < end → Arc (net arcs.now) W j) × Held W day.now }
+    ensures { (fs : List Alternative) → IsDay W fs day.now → result ≡ dead sound fs (arcs_from (net arcs.now) from (end - from)) }
 {
     let mut alive = false;
     for j in from..end {
-        alive |= fits(days, base, n, arcs, j);
+        alive |= allows(day, arcs, j);
     }
     !alive
+}
+
+// Whether the way from arc a's head to fact j's tail, j, the way from j's head back to a's tail, and a itself sum below 0 under the day. If not, no closed walk
+// below 0 that passes through a once passes through j.
+pub fn closes<const W: usize>(day: &[[u32; W]; W], arcs: &[Edge], a: usize, j: usize) -> bool
+    requires { (W ≤ most_events) × Arc (net arcs.now) W a × Arc (net arcs.now) W j × Held W day.now }
+    ensures { (fs : List Alternative) → IsDay W fs day.now → result ≡ false → Aside (net arcs.now) fs a j }
+{
+    let new = fact(arcs, a);
+    let old = fact(arcs, j);
+    way_through(day, new.x, old, new.y) + new.b < 2 * TURN
 }

@@ -7,9 +7,8 @@ use Rattle.meaning.specs.Problem.{Alternative}
 use Rattle.meaning.specs.Decision.{sound}
 use Rattle.meaning.specs.Search.{dead}
 use Rattle.problem.specs.Arcs.{net, arcs_from}
-use Rattle.distances.specs.Distances.{DayOf}
-use Rattle.distances.specs.Numbers.{table_at}
+use Rattle.taking.specs.Tables.{IsDay}
 use Rattle.taking.proofs.is_dead.Given as goal
 
 abbrev pub invariant-loop-j : goal.invariant-loop-j
-invariant-loop-j l = (fs : List Alternative) → DayOf l.n fs (table_at l.days l.base l.n) → cond l.alive false (dead sound fs (arcs_from (net l.arcs) l.j (l.end - l.j))) ≡ dead sound fs (arcs_from (net l.arcs) l.from (l.end - l.from))
+invariant-loop-j g l = (fs : List Alternative) → IsDay g.row.W fs l.day → cond l.alive false (dead sound fs (arcs_from (net l.arcs) l.j (l.end - l.j))) ≡ dead sound fs (arcs_from (net l.arcs) l.from (l.end - l.from))

@@ -1,7 +1,7 @@
 // Facts held in a buffer by value, newest first, their tests and their shortest reason.
 #![tactic(auto)]
 
-ghost use Rattle.std.specs.Prelude.{◌≡◌, false, [], ◌∷◌, ◌+◌, ◌≤◌};
+ghost use Rattle.std.specs.Prelude.{◌≡◌, true, false, [], ◌∷◌, ◌+◌, ◌≤◌, length, map, drop};
 ghost use Rattle.meaning.specs.Limits.{row_bytes};
 ghost use Rattle.meaning.specs.Decision.{sound};
 ghost use Rattle.meaning.specs.Search.{cycle};
@@ -61,11 +61,11 @@ impl Facts {
         facts::test_with(&p.arcs, self.buffer, self.at, j, p.n)
     }
 
-    // The shortest reason of facts that have no timetable, as a row.
-    pub fn reason(self, p: &Problem) -> [u8; ROW]
-        requires { Within (arcs p.now) (held self) p.now.n × (sound (facts_in p.now self) ≡ false) }
+    // The shortest reason of facts that have no timetable, of which those after the `news` newest have one, as a row.
+    pub fn reason(self, p: &Problem, news: usize) -> [u8; ROW]
+        requires { Within (arcs p.now) (held self) p.now.n × (sound (facts_in p.now self) ≡ false) × (news ≤ length (held self)) × (sound (map (arc (arcs p.now)) (drop news (held self))) ≡ true) }
         ensures { result ≡ row_of row_bytes (cycle (facts_in p.now self)) }
     {
-        shortest::reason(&p.arcs, &self.buffer[self.at..], p.n)
+        shortest::reason(&p.arcs, &self.buffer[self.at..], news, p.n)
     }
 }

@@ -70,7 +70,7 @@ module _ (p : Problem) (a : ℕ) (i : Input) (times picks room : ℕ) (accepts :
       (ap (λ (m : ℕ). replicate m blank_byte) (sym accepts.has_room))
 
   -- none: the rows fit, or they don't
-  module _ (s : Place) (entry exit : List ℕ) (answer : Answer) (size : length entry ≡ room) (h : Ended p a (search sound (clauses_in p) 0 [] a) s entry) (k : Closes p s entry answer exit) where
+  module _ (s : Place) (reasons : List ℕ) (answer : Answer) (size : length reasons ≡ room) (blank : length reasons < s.rows * row_bytes → reasons ≡ replicate room blank_byte) (h : Ended p a (search sound (clauses_in p) 0 [] a) s reasons) (k : Closes p s (length reasons) answer) where
     visits-same : s.visits ≡ i.allowance - (a - s.visits)
     visits-same = omega (arith, h.spent, accepts.allows)
 
@@ -80,30 +80,30 @@ module _ (p : Problem) (a : ℕ) (i : Input) (times picks room : ℕ) (accepts :
     many : length h.rows * row_bytes ≡ s.rows * row_bytes
     many = ap (λ (n : ℕ). n * row_bytes) h.counted
 
-    shows-listed : s.rows * row_bytes ≤ length entry → Shows i answer (replicate times no_time) (replicate picks blank_byte) exit
+    shows-listed : s.rows * row_bytes ≤ length reasons → Shows i answer (replicate times no_time) (replicate picks blank_byte) reasons
     unfolding shown listed
     shows-listed fit =
-        shows-as i answer _ _ exit (listed i (i.allowance - (a - s.visits)) h.before h.rows true) (shown-is (closed h.before h.rows (a - s.visits)) h.is ∙ ap (listed i (i.allowance - (a - s.visits)) h.before h.rows) (le-leb (length h.rows * row_bytes) i.room (omega (arith, many, accepts.has_room))))
-        ((k.fits fit).0 ∙ none-same)
+        shows-as i answer _ _ reasons (listed i (i.allowance - (a - s.visits)) h.before h.rows true) (shown-is (closed h.before h.rows (a - s.visits)) h.is ∙ ap (listed i (i.allowance - (a - s.visits)) h.before h.rows) (le-leb (length h.rows * row_bytes) i.room (omega (arith, many, accepts.has_room))))
+        (k.fits fit ∙ none-same)
         (ap (λ (m : ℕ). replicate m no_time) (sym accepts.has-times))
         (ap (λ (m : ℕ). replicate m blank_byte) (sym accepts.has-picks))
-        ((k.fits fit).1 ∙ h.kept.lists (omega (arith, many)) ∙ ap (λ (m : ℕ). rows_in row_bytes m h.rows) (size ∙ sym accepts.has_room))
+        (h.kept.lists (omega (arith, many)) ∙ ap (λ (m : ℕ). rows_in row_bytes m h.rows) (size ∙ sym accepts.has_room))
       where
         none-same : None s.visits (product (clauses_in p)) s.rows ≡ None (i.allowance - (a - s.visits)) h.before (length h.rows)
         none-same = ap₂ (λ (v b : ℕ). None v b s.rows) visits-same before_same ∙ ap (None (i.allowance - (a - s.visits)) h.before) (sym h.counted)
 
-    shows-unlisted : length entry < s.rows * row_bytes → Shows i answer (replicate times no_time) (replicate picks blank_byte) exit
+    shows-unlisted : length reasons < s.rows * row_bytes → Shows i answer (replicate times no_time) (replicate picks blank_byte) reasons
     unfolding shown listed cleared
     shows-unlisted over =
-        shows-as i answer _ _ exit (listed i (i.allowance - (a - s.visits)) h.before h.rows false) (shown-is (closed h.before h.rows (a - s.visits)) h.is ∙ ap (listed i (i.allowance - (a - s.visits)) h.before h.rows) (lt-leb (length h.rows * row_bytes) i.room (omega (arith, many, accepts.has_room))))
-        ((k.over over).0 ∙ ap₂ (λ (v b : ℕ). Unlisted v b s.rows) visits-same before_same ∙ ap (Unlisted (i.allowance - (a - s.visits)) h.before) (sym h.counted))
+        shows-as i answer _ _ reasons (listed i (i.allowance - (a - s.visits)) h.before h.rows false) (shown-is (closed h.before h.rows (a - s.visits)) h.is ∙ ap (listed i (i.allowance - (a - s.visits)) h.before h.rows) (lt-leb (length h.rows * row_bytes) i.room (omega (arith, many, accepts.has_room))))
+        (k.over over ∙ ap₂ (λ (v b : ℕ). Unlisted v b s.rows) visits-same before_same ∙ ap (Unlisted (i.allowance - (a - s.visits)) h.before) (sym h.counted))
         (ap (λ (m : ℕ). replicate m no_time) (sym accepts.has-times))
         (ap (λ (m : ℕ). replicate m blank_byte) (sym accepts.has-picks))
-        ((k.over over).1 ∙ ap (λ (m : ℕ). replicate m blank_byte) (size ∙ sym accepts.has_room))
+        (blank over ∙ ap (λ (m : ℕ). replicate m blank_byte) (sym accepts.has_room))
 
-    pub shows-none : Shows i answer (replicate times no_time) (replicate picks blank_byte) exit
-    shows-none = go (dec_lt (length entry) (s.rows * row_bytes))
+    pub shows-none : Shows i answer (replicate times no_time) (replicate picks blank_byte) reasons
+    shows-none = go (dec_lt (length reasons) (s.rows * row_bytes))
       where
-        go : Dec (length entry < s.rows * row_bytes) → Shows i answer (replicate times no_time) (replicate picks blank_byte) exit
+        go : Dec (length reasons < s.rows * row_bytes) → Shows i answer (replicate times no_time) (replicate picks blank_byte) reasons
         go (yes o) = shows-unlisted o
         go (no o) = shows-listed (omega arith)

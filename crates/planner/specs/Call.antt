@@ -35,10 +35,10 @@ pub record Accepts (i : Input) (p : Problem) (allowance times picks room : ℕ) 
 pub record Answers (p : Problem) (allowance : ℕ) (times picks room : ℕ) (answer : Answer) (timetable : List ℤ) (positions reasons : List ℕ) : Type 0 where
   pub shows : (i : Input) → Accepts i p allowance times picks room → Shows i answer timetable positions reasons
 
--- the answer and the reasons of a search that ended without a plan at the place s, by whether its rows fit
-pub record Closes (p : Problem) (s : Place) (before : List ℕ) (answer : Answer) (after : List ℕ) : Type 0 where
-  pub fits : s.rows * row_bytes ≤ length before → (answer ≡ None s.visits (product (clauses_in p)) s.rows) × (after ≡ before)
-  pub over : length before < s.rows * row_bytes → (answer ≡ Unlisted s.visits (product (clauses_in p)) s.rows) × (after ≡ replicate (length before) blank_byte)
+-- the answer of a search that ended without a plan at the place s, by whether its rows fit into so many bytes
+pub record Closes (p : Problem) (s : Place) (room : ℕ) (answer : Answer) : Type 0 where
+  pub fits : s.rows * row_bytes ≤ room → answer ≡ None s.visits (product (clauses_in p)) s.rows
+  pub over : room < s.rows * row_bytes → answer ≡ Unlisted s.visits (product (clauses_in p)) s.rows
 
 -- the answer, the timetable and the picks of the plan at the place s
 pub record Plans (p : Problem) (s : Place) (answer : Answer) (times after-times : List ℤ) (picks after-picks : List ℕ) : Type 0 where

@@ -80,26 +80,26 @@ fn found(p: &Problem, s: Place, timetable: &mut [i32], picks: &mut [u8]) -> Answ
     }
 }
 
-// A search that ended without a plan at the place s: listed where the rows fit, and else no list.
-fn closed(p: &Problem, s: Place, reasons: &mut [u8]) -> Answer
+// A search that ended without a plan at the place s, with room for so many bytes: listed where the rows fit, and else no list.
+fn closed(p: &Problem, s: Place, room: usize) -> Answer
     requires { s.rows ≤ most_rows }
-    ensures { Closes p.now s reasons.old result reasons.new }
+    ensures { Closes p.now s room result }
 {
     let visits = s.visits;
     let before = search::under(p, 0);
     let rows = s.rows as u64;
-    if s.rows * ROW <= reasons.len() {
-        return Answer::None {
+    if s.rows * ROW <= room {
+        Answer::None {
             visits,
             before,
             rows,
-        };
-    }
-    reasons.fill(BLANK);
-    Answer::Unlisted {
-        visits,
-        before,
-        rows,
+        }
+    } else {
+        Answer::Unlisted {
+            visits,
+            before,
+            rows,
+        }
     }
 }
 
@@ -127,15 +127,9 @@ fn planned(
     ensures { Answers p.now allowance (length timetable.old) (length picks.old) (length reasons.old) result timetable.new picks.new reasons.new }
 {
     match search::run(p, allowance, reasons) {
-        End::Closed(s) => closed(p, s, reasons),
-        End::Plan(s) => {
-            reasons.fill(BLANK);
-            found(p, s, timetable, picks)
-        }
-        End::Stop(s) => {
-            reasons.fill(BLANK);
-            stopped(p, s)
-        }
+        End::Closed(s) => closed(p, s, reasons.len()),
+        End::Plan(s) => found(p, s, timetable, picks),
+        End::Stop(s) => stopped(p, s),
     }
 }
 

@@ -1,8 +1,8 @@
 -- Rows put at the end of what is kept. Assumes nothing.
-use mathlib.Core.Path.{◌≡◌, sym, ap, ap₂, ◌∙◌, subst}
+use mathlib.Core.Path.{◌≡◌, refl, sym, ap, ap₂, ◌∙◌, subst}
 use mathlib.Core.Bool.{Bool, cond}
 use mathlib.Core.List.{List, [], ◌∷◌, ◌++◌, map, append_assoc, append-nil}
-use Prim.Native.Nat.{ℕ, ◌+◌, ◌-◌, ◌*◌, ◌<◌, ◌≤◌}
+use Prim.Native.Nat.{ℕ, suc, ◌+◌, ◌-◌, ◌*◌, ◌<◌, ◌≤◌}
 use native.Mathlib.Nat.{add-mul}
 use native.Mathlib.Decide.{dec_lt}
 use native.Mathlib.Omega.{arith}
@@ -13,7 +13,8 @@ use Rattle.laws.proofs.Lists.{drop-replicate}
 use Rattle.laws.proofs.Tests.{is_true, is_false}
 use Rattle.meaning.specs.Limits.{row_bytes, blank_byte}
 use Rattle.meaning.specs.Problem.{Alternative}
-use Rattle.meaning.specs.Search.{Row, cycle}
+use Rattle.meaning.specs.Search.{Row, mark, cycle}
+use Rattle.meaning.specs.Reasons.{mark_row}
 use Rattle.meaning.specs.Listing.{row_of, listing, rows_in}
 use Rattle.meaning.proofs.Listing.{row-length, listing-length, listing-append}
 use Rattle.problem.specs.Arcs.{Net, arc, arcs_from}
@@ -101,6 +102,26 @@ keeps-none bytes count = record { keeps = λ rows e k. subst (λ (r : List Row).
 pub keeps-row : (bytes : List ℕ) (count : ℕ) (x : Row) → Keeps bytes (put_row bytes count (row_of row_bytes x)) count (x ∷ [])
 keeps-row bytes count x =
     record { keeps = λ rows e k. subst (λ (n : ℕ). Kept (length bytes) (rows ++ x ∷ []) (put_row bytes n (row_of row_bytes x))) e (keep_row (length bytes) rows bytes x k) }
+
+pub row-put : (bytes : List ℕ) (count : ℕ) (x : Row) → length (put_row bytes count (row_of row_bytes x)) ≡ length bytes
+row-put bytes count x = put-length bytes count (row_of row_bytes x) (row-length row_bytes (omega arith) x)
+
+pub keeps-mark : (bytes : List ℕ) (count b : ℕ) → Keeps bytes (put_row bytes count (mark_row row_bytes b)) count (mark b ∷ [])
+unfolding row_of
+keeps-mark bytes count b = keeps-row bytes count (mark b)
+
+pub mark-length : (bytes : List ℕ) (count b : ℕ) → length (put_row bytes count (mark_row row_bytes b)) ≡ length bytes
+mark-length bytes count b = put-length bytes count (mark_row row_bytes b) (unfold mark_row in refl)
+
+-- rows that have no room are kept by doing nothing
+pub keeps-over : (bytes : List ℕ) (count : ℕ) (more : List Row) → length bytes < count * row_bytes + row_bytes → Keeps bytes bytes count more
+keeps-over bytes count [] l = keeps-none bytes count
+keeps-over bytes count (x ∷ more) l =
+    record { keeps = λ rows e k. record { size = refl; lists = λ h. absurd (over rows e h) } }
+  where
+    over : (rows : List Row) → length rows ≡ count → length (rows ++ x ∷ more) * row_bytes ≤ length bytes → ⊥
+    over rows e h =
+        omega (arith, sym (ap (λ (n : ℕ). n * row_bytes) (length-append rows (x ∷ more))), add-mul (length rows) (suc (length more)) row_bytes, add-mul 1 (length more) row_bytes, ap (λ (n : ℕ). n * row_bytes) e)
 
 pub keeps_then : (a b c : List ℕ) (n m : ℕ) (r s : List Row) → length b ≡ length a → m ≡ n + length r → Keeps a b n r → Keeps b c m s → Keeps a c n (r ++ s)
 keeps_then a b c n m r s l e f g =

@@ -2,5 +2,10 @@ pub mod Numbers
 pub mod Dead
 pub mod Ranks
 pub mod Keeping
+pub mod Deeper
+pub mod Tables
 pub mod Steps
-pub mod Visiting
+pub mod Naming
+pub mod Moving
+pub mod Running
+pub mod Asides

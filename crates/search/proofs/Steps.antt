@@ -117,7 +117,7 @@ module _ (p : Problem) (a : ℕ) (s : Place) (entry exit : List ℕ) (w : Contro
   closes = go w leaves
     where
       go : (w : ControlFlow End Place) → Leaves p (counted-on s v (s.rows + length r)) w → Means p a o (effort p a s) w exit
-      go (Continue t) (c, e, i, less) = goes_on t c.visits c.rows e i less
+      go (Continue t) (c, e, i, less, long) = goes_on t c.visits c.rows e i less
       go (Break (Plan t)) h = absurd h
       go (Break (Closed t)) (c, e) = ends-here t c.visits c.rows e
       go (Break (Stop t)) h = absurd h

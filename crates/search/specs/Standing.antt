@@ -1,14 +1,9 @@
--- The facts of a standing as arc numbers, newest first, and its dead clauses. Definitions only.
-use Rattle.std.specs.Prelude.{◌≡◌, Option, IsNone, IfSome, List, [], ◌∷◌, ℕ, zero, suc, ◌+◌, ◌-◌, ◌<◌, ◌≤◌}
-use Rattle.std.proofs.Math.Option.{some, none}
+-- The facts of a standing as arc numbers, newest first. Definitions only.
+use Rattle.std.specs.Prelude.{List, [], ◌∷◌, ℕ, zero, suc, ◌+◌, ◌<◌, ◌≤◌}
 use Rattle.meaning.specs.Limits.{opposite_from}
-use Rattle.meaning.specs.Decision.{sound}
-use Rattle.meaning.specs.Search.{first_dead}
 use Rattle.problem.specs.declared.Problem.{Problem}
 use Rattle.problem.specs.Arcs.{at}
-use Rattle.problem.specs.Laid.{size_of, clauses_from}
-use Rattle.held.specs.declared.Facts.{Facts}
-use Rattle.held.specs.Held.{facts_in}
+use Rattle.problem.specs.Laid.{size_of}
 
 -- position i of a clause whose first alternative is j: its number, and before it the opposites of those passed over, put before the numbers L
 unfoldable pub takes : ℕ → ℕ → List ℕ → List ℕ
@@ -29,8 +24,3 @@ chosen_facts starts k (i ∷ q) = (at starts k + i) ∷ chosen_facts starts (suc
 pub record Inside (p : Problem) (picks : List ℕ) (k : ℕ) : Type 0 where
   pub few : k ≤ p.m
   pub each : (i : ℕ) → i < k → at picks i < size_of p i
-
--- clause d is the lowest dead one from clause k on; or none is
-pub record DeadFrom (p : Problem) (f : Facts) (k : ℕ) (lowest : Option ℕ) : Type 0 where
-  pub some-dead : IfSome lowest (λ d. (k ≤ d) × (d < p.m) × (first_dead sound (facts_in p f) (clauses_from p k (p.m - k)) ≡ some (d - k)))
-  pub none-dead : IsNone lowest → first_dead sound (facts_in p f) (clauses_from p k (p.m - k)) ≡ none

@@ -1,14 +1,12 @@
 -- The search as a step over a place, and what a step and a run say. Definitions only.
-use Rattle.std.specs.Prelude.{◌≡◌, true, List, [], ℕ, ◌+◌, ◌-◌, ◌*◌, ◌<◌, ◌≤◌, length, take}
+use Rattle.std.specs.Prelude.{◌≡◌, List, [], ℕ, ◌+◌, ◌-◌, ◌*◌, ◌<◌, ◌≤◌, length, take}
 use Rattle.std.proofs.Common.{ControlFlow, Continue, Break}
 use Rattle.std.proofs.Math.Option.{some, none}
-use Rattle.meaning.specs.Limits.{most_allowance}
+use Rattle.meaning.specs.Limits.{most_allowance, most_clauses, row_bytes}
 use Rattle.meaning.specs.Decision.{sound}
-use Rattle.meaning.specs.Search.{Row, Outcome, found, closed, stopped, later, facts, next, search, resume}
+use Rattle.meaning.specs.Search.{Row, Outcome, found, closed, stopped, later, next, search, resume}
 use Rattle.problem.specs.declared.Problem.{Problem}
 use Rattle.problem.specs.Laid.{clauses_in}
-use Rattle.held.specs.declared.Facts.{Facts}
-use Rattle.held.specs.Held.{facts_in}
 use Rattle.search.specs.declared.Place.{Place}
 use Rattle.search.specs.declared.End.{End}
 use Rattle.search.specs.declared.End.TheVariants.{Plan, Closed, Stop}
@@ -96,17 +94,18 @@ pub record Counts (s t : Place) : Type 0 where
 
 -- the place after the standing of s is closed, if there is one; else all is closed
 abbrev pub Leaves : Problem → Place → ControlFlow End Place → Type 0
-Leaves p s (Continue t) = Counts s t × (next (clauses_in p) (positions s) ≡ some (positions t)) × Inside p t.standing.picks t.standing.k × (open_at (clauses_in p) (positions t) < open_at (clauses_in p) (positions s))
+Leaves p s (Continue t) = Counts s t × (next (clauses_in p) (positions s) ≡ some (positions t)) × Inside p t.standing.picks t.standing.k × (open_at (clauses_in p) (positions t) < open_at (clauses_in p) (positions s)) × (length t.standing.picks ≡ most_clauses)
 Leaves p s (Break (Plan t)) = ⊥
 Leaves p s (Break (Closed t)) = Counts s t × (next (clauses_in p) (positions s) ≡ none)
 Leaves p s (Break (Stop t)) = ⊥
-
--- a visit of the standing of s, whose facts f are sound
-pub record Visits (p : Problem) (f : Facts) (s : Place) (before : List ℕ) (w : ControlFlow End Place) (after : List ℕ) : Type 0 where
-  pub sized : length after ≡ length before
-  pub means : (a : ℕ) (o : Outcome) → Fine p a s → s.visits < a → facts_in p f ≡ facts (clauses_in p) (positions s) [] → sound (facts_in p f) ≡ true → At p a o s before → Means p a o (effort p a s) w after
 
 -- a run of the whole search, with the allowance a
 pub record Runs (p : Problem) (a : ℕ) (before : List ℕ) (e : End) (after : List ℕ) : Type 0 where
   pub sized : length after ≡ length before
   pub ends : Ends p a (search sound (clauses_in p) 0 [] a) e after
+
+-- a run whose rows are worked out only where all of them fit: else the reasons are as they were
+abbrev pub Left : End → List ℕ → List ℕ → Type 0
+Left (Plan s) before after = after ≡ before
+Left (Closed s) before after = length before < s.rows * row_bytes → after ≡ before
+Left (Stop s) before after = after ≡ before

@@ -1,12 +1,10 @@
-// The facts of a standing and of a selection, and the dead clauses of a standing.
+// The facts of a standing and of a selection, held in a buffer.
 ghost use Rattle.std.specs.Prelude.{◌≡◌, [], ◌+◌, ◌<◌, ◌≤◌, take};
-ghost use Rattle.meaning.specs.Decision.{sound};
-ghost use Rattle.meaning.specs.Search.{dead};
 ghost use Rattle.problem.specs.Arcs.{at};
-ghost use Rattle.problem.specs.Laid.{size_of, clause_of};
+ghost use Rattle.problem.specs.Laid.{size_of};
 ghost use Rattle.facts.specs.Tests.{places};
-ghost use Rattle.held.specs.Held.{held, facts_in, Ready};
-ghost use Rattle.search.specs.Standing.{takes, standing_facts, chosen_facts, Inside, DeadFrom};
+ghost use Rattle.held.specs.Held.{held};
+ghost use Rattle.search.specs.Standing.{takes, standing_facts, chosen_facts, Inside};
 
 use crate::Standing;
 use held::Facts;
@@ -50,20 +48,4 @@ pub fn chosen_of(p: &Problem, picks: [u8; CLAUSES]) -> Facts
         f = f.put(p.starts[i] + picks[i]);
     }
     f
-}
-
-// Whether clause d is dead: no alternative of it has a timetable together with the facts.
-fn is_dead(p: &Problem, f: Facts, d: usize) -> bool
-    requires { Ready p.now f × (d < p.now.m) }
-    ensures { result ≡ dead sound (facts_in p.now f) (clause_of p.now d) }
-{
-    (p.starts[d]..p.starts[d + 1]).all(|j| f.tested_with(p, j).is_none())
-}
-
-// The lowest dead clause from clause k on, if there is one.
-pub fn first_dead(p: &Problem, f: Facts, k: usize) -> Option<usize>
-    requires { Ready p.now f × (k ≤ p.now.m) }
-    ensures { DeadFrom p.now f k result }
-{
-    (k..p.m).find(|&d| is_dead(p, f, d))
 }

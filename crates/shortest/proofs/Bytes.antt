@@ -25,3 +25,10 @@ padded-more w l j h =
 -- the row starts with its first number
 pub padded-first : (w : ℕ) (l row : List ℕ) → row ≡ padded w l → 0 < length l → length l ≤ w → at row 0 ≡ at l 0
 padded-first w l row e h m = rw (e ∙ padded-is w l m) (get_or-append l (replicate (w - length l) blank_byte) 0 0 h)
+
+-- two stores make a row of two numbers
+pub padded-two : (w x y : ℕ) → 2 ≤ w → set (set (replicate w blank_byte) 0 x) 1 y ≡ padded w (x ∷ y ∷ [])
+padded-two w x y h =
+    ap (λ (r : List ℕ). set (set r 0 x) 1 y) (padded-none w)
+    ∙ ap (λ (r : List ℕ). set r 1 y) (padded-more w [] x (omega arith))
+    ∙ padded-more w (x ∷ []) y (omega arith)

@@ -1,26 +1,24 @@
--- The best row so far and the first from one event more: what is found from it, and which of the two is kept. Rows from two events start with two numbers, so the first number decides. Assumes nothing.
+-- The best row so far and the first from one event more: what is found from it, which of the two is kept, and when the event need not be looked at. Rows from two events start with two numbers, so the first number decides. Assumes nothing.
 use mathlib.Core.Path.{◌≡◌, refl, sym, ap, ◌∙◌, subst}
-use mathlib.Core.Logic.{inl, inr}
 use mathlib.Core.List.{List, [], ◌∷◌}
 use Prim.Native.Nat.{ℕ, ◌+◌, ◌≤◌, ◌<◌}
-use mathlib.Core.Bool.{true≢false}
 use native.Mathlib.Omega.{arith}
-use native.Mathlib.Decide.{dec_lt, ℕ_discrete}
+use native.Mathlib.Decide.{dec_lt}
 use lib.ListN.{length}
+use borrow.Author.Count.{below_more}
 use Rattle.std.specs.Option.{IsSomeAnd}
-use Rattle.std.proofs.Common.{Option, Some, None, IfSome, MatchOption}
+use Rattle.std.proofs.Common.{Option, Some, None, IfSome}
 use Rattle.meaning.specs.Limits.{row_bytes}
 use Rattle.meaning.specs.Plain.{◌≺◌}
 use Rattle.meaning.proofs.Dictionary.{head_first, head-after}
 use Rattle.problem.specs.Arcs.{Net, tail, at}
 use Rattle.shortest.specs.Paths.{From}
-use Rattle.shortest.specs.declared.Found.{Found}
-use Rattle.shortest.specs.Leading.{RowFrom}
+use Rattle.shortest.specs.Leading.{Lowest, RowFrom}
 use Rattle.shortest.specs.Best.{Looks, GoesBefore, RowBelow, Best}
 use Rattle.shortest.proofs.Bytes.{padded-first}
 
 -- ---- the first numbers
-from_some : (g : Net) (L : List ℕ) (t : ℕ) (l : List ℕ) → From g L t l → 0 < length l
+pub from_some : (g : Net) (L : List ℕ) (t : ℕ) (l : List ℕ) → From g L t l → 0 < length l
 from_some g L t [] f = absurd (omega (arith, f.negative))
 from_some g L t (j ∷ l) f = omega arith
 
@@ -29,139 +27,75 @@ from_tail : (g : Net) (L : List ℕ) (t : ℕ) (l : List ℕ) → From g L t l �
 from_tail g L t [] f = absurd (omega (arith, f.negative))
 from_tail g L t (j ∷ l) f = f.path.1
 
--- nothing is looked at yet
-pub best-start : (g : Net) (L : List ℕ) (n : ℕ) → Best g L n 0 None
-best-start g L n = record { some = tt; none = λ _ v h. absurd (omega arith) }
+-- a row of bytes starts as its list does
+row-first : (g : Net) (L : List ℕ) (t size : ℕ) (row : List ℕ) → size ≤ row_bytes → (r : RowFrom g L t size row) → at row 0 ≡ at r.list 0
+row-first g L t size row wide r = padded-first row_bytes r.list row r.bytes (from_some g L t r.list r.first.closed) (omega (arith, r.long))
 
-module _ (g : Net) (L : List ℕ) (t : ℕ) where
-  -- of the events up to t
-  split : {P : ℕ → Type 0} → ((v : ℕ) → v < t → P v) → P t → (v : ℕ) → v < t + 1 → P v
-  split {P} f h v l = go (dec_lt v t)
+-- no closed row of its size from t starts with less than the first does
+row-least : (g : Net) (L : List ℕ) (t size : ℕ) (row : List ℕ) → size ≤ row_bytes → RowFrom g L t size row → (m : List ℕ) → From g L t m → length m ≡ size → at row 0 ≤ at m 0
+row-least g L t size row wide r m f e =
+    omega (arith, row-first g L t size row wide r, head_first m r.list (from_some g L t m f) (from_some g L t r.list r.first.closed) (r.first.first m f (e ∙ sym r.long)))
+
+-- ---- which of the two is kept
+module _ (g : Net) (L : List ℕ) (t size : ℕ) where
+  -- the old one, where no row from t starts with a smaller number
+  kept : (best : Option (List ℕ)) → Best g L t size best → ((m : List ℕ) → From g L t m → length m ≡ size → IsSomeAnd best (λ row. at row 0 ≤ at m 0)) → Best g L (t + 1) size best
+  kept best p f = record { some = some best p.some; least = below_more (λ (v : ℕ). (m : List ℕ) → From g L v m → length m ≡ size → IsSomeAnd best (λ row. at row 0 ≤ at m 0)) t p.least f }
     where
-      go : Dec (v < t) → P v
-      go (yes k) = f v k
-      go (no k) = let e : v ≡ t = omega (arith, k) in subst P (sym e) h
+      some : (best : Option (List ℕ)) → IfSome best (RowBelow g L t size) → IfSome best (RowBelow g L (t + 1) size)
+      some (Some old) r = record { event = r.event; below = omega (arith, r.below); found = r.found }
+      some None r = tt
 
-  -- the new one is first of its size, where no old one has fewer numbers or comes before it
-  new_row : (new : Found) (r : RowFrom g L t new.size new.row) → ((v : ℕ) → v < t → (m : List ℕ) → From g L v m → new.size ≤ length m) → ((v : ℕ) → v < t → (m : List ℕ) → From g L v m → length m ≡ new.size → m ≺ r.list → ⊥) → RowBelow g L (t + 1) new
-  new_row new r f h =
-      record {
-        event = t;
-        below = omega arith;
-        list = r.list;
-        closed = r.first.closed;
-        long = r.long;
-        bytes = r.bytes;
-        fewest = split f (λ m c. omega (arith, r.first.fewest m c, r.long));
-        first = split h (λ m c e. r.first.first m c (e ∙ sym r.long));
-      }
-
-  -- the old one stays the first, where no new one has fewer numbers or comes before it
-  old_row : (old : Found) (r : RowBelow g L t old) → ((m : List ℕ) → From g L t m → old.size ≤ length m) → ((m : List ℕ) → From g L t m → length m ≡ old.size → m ≺ r.list → ⊥) → RowBelow g L (t + 1) old
-  old_row old r f h =
-      record {
-        event = r.event;
-        below = omega (arith, r.below);
-        list = r.list;
-        closed = r.closed;
-        long = r.long;
-        bytes = r.bytes;
-        fewest = split r.fewest f;
-        first = split r.first h;
-      }
-
-  -- ---- which of two is kept
-  module _ (new old : Found) (wide : old.size ≤ row_bytes) (r : RowFrom g L t new.size new.row) (o : RowBelow g L t old) where
-    -- fewer numbers go before
-    new-fewer : new.size < old.size → RowBelow g L (t + 1) new
-    new-fewer l =
-        new_row new r (λ v k m f. omega (arith, o.fewest v k m f)) (λ v k m f e c. omega (arith, o.fewest v k m f))
-
-    old-fewer : old.size < new.size → RowBelow g L (t + 1) old
-    old-fewer l =
-        old_row old o (λ m f. omega (arith, r.first.fewest m f, r.long)) (λ m f e c. omega (arith, r.first.fewest m f, r.long))
-
-    module _ (same : new.size ≡ old.size) where
-      first-old : at old.row 0 ≡ at o.list 0
-      first-old = padded-first row_bytes o.list old.row o.bytes (from_some g L o.event o.list o.closed) (omega (arith, o.long))
-
-      first-new : at new.row 0 ≡ at r.list 0
-      first-new = padded-first row_bytes r.list new.row r.bytes (from_some g L t r.list r.first.closed) (omega (arith, r.long))
-
-      -- with as many numbers the smaller first goes before: no old row starts with less than the best of them does
-      new-first : at new.row 0 < at old.row 0 → RowBelow g L (t + 1) new
-      new-first l =
-          new_row new r
-          (λ v k m f. omega (arith, o.fewest v k m f))
-          (λ v k m f e.
-          head-after m r.list
-          (omega (arith, first-old, first-new, head_first m o.list (from_some g L v m f) (from_some g L o.event o.list o.closed) (o.first v k m f (e ∙ same)))))
-
-      -- and two first numbers are not the same, since their arcs leave different events
-      old-first : at old.row 0 ≤ at new.row 0 → RowBelow g L (t + 1) old
-      old-first l =
-          old_row old o
-          (λ m f. omega (arith, r.first.fewest m f, r.long))
-          (λ m f e.
-          let d : at o.list 0 ≡ at m 0 → ⊥ = λ i. apart o.event o.below (sym (from_tail g L o.event o.list o.closed) ∙ ap (λ (j : ℕ). tail g j) i ∙ from_tail g L t m f) in
-          head-after m o.list
-          (omega (arith, d, first-old, first-new, head_first m r.list (from_some g L t m f) (from_some g L t r.list r.first.closed) (r.first.first m f (e ∙ sym same ∙ sym r.long)))))
+  -- a closed row starts with a number of a fact from its event, so none from t starts below the smallest of these
+  pub best-passed : (best : Option (List ℕ)) → Best g L t size best → (low : Option ℕ) → Lowest g L t low → (IsSomeAnd low (λ j. GoesBefore j best) → ⊥) → Best g L (t + 1) size best
+  best-passed best p low n h = kept best p (λ m f e. from-first m f)
+    where
+      from-first : (m : List ℕ) → From g L t m → IsSomeAnd best (λ row. at row 0 ≤ at m 0)
+      from-first [] f = absurd (omega (arith, f.negative))
+      from-first (j ∷ m) f = not-below best low (n.least j f.path.0 f.path.1) h
         where
-          apart : (v : ℕ) → v < t → v ≡ t → ⊥
-          apart v k e = omega arith
+          not-below : (best : Option (List ℕ)) (low : Option ℕ) → IsSomeAnd low (λ r. r ≤ j) → (IsSomeAnd low (λ j. GoesBefore j best) → ⊥) → IsSomeAnd best (λ row. at row 0 ≤ j)
+          not-below best None l h = elim l [ ]
+          not-below None (Some r) l h = absurd (h tt)
+          not-below (Some row) (Some r) l h = omega (arith, h)
 
-    row-new : GoesBefore new old → RowBelow g L (t + 1) new
-    row-new (inl l) = new-fewer l
-    row-new (inr (e, l)) = new-first e l
+  -- where none is found there is none of this size
+  pub best-kept : (best : Option (List ℕ)) → Best g L t size best → Looks g L t size None → Best g L (t + 1) size best
+  best-kept best p q = kept best p (λ m f e. absurd (omega (arith, q.none refl m f)))
 
-    row-old : (GoesBefore new old → ⊥) → RowBelow g L (t + 1) old
-    row-old f = go (ℕ_discrete new.size old.size)
+  -- of the old and the new one that with the smaller first number
+  module _ (wide : size ≤ row_bytes) (new : List ℕ) (q : Looks g L t size (Some new)) where
+    pub best-new : (best : Option (List ℕ)) → Best g L t size best → GoesBefore (at new 0) best → Best g L (t + 1) size (Some new)
+    best-new best p l =
+        record {
+          some = record { event = t; below = omega arith; found = q.some };
+          least = below_more (λ (v : ℕ). (m : List ℕ) → From g L v m → length m ≡ size → at new 0 ≤ at m 0) t (λ v k m f e. before best (p.least v k m f e) l) (row-least g L t size new wide q.some);
+        }
       where
-        go : Dec (new.size ≡ old.size) → RowBelow g L (t + 1) old
-        go (yes e) = old-first e (first (dec_lt (at new.row 0) (at old.row 0)))
-          where
-            first : Dec (at new.row 0 < at old.row 0) → at old.row 0 ≤ at new.row 0
-            first (yes l) = absurd (f (inr (e, l)))
-            first (no l) = omega (arith, l)
-        go (no d) = old-fewer (fewer (dec_lt new.size old.size))
-          where
-            fewer : Dec (new.size < old.size) → old.size < new.size
-            fewer (yes l) = absurd (f (inl l))
-            fewer (no l) = omega (arith, l, d)
+        before : {k : ℕ} (best : Option (List ℕ)) → IsSomeAnd best (λ row. at row 0 ≤ k) → GoesBefore (at new 0) best → at new 0 ≤ k
+        before (Some old) a b = omega arith
+        before None a b = elim a [ ]
 
--- ---- the best of the rows up to t, where it was `best` of those below t and at most so many numbers were looked for
-module _ (g : Net) (L : List ℕ) (n t most : ℕ) (wide : n ≤ row_bytes) where
-  -- a new row is the best if it goes before the old one, or there was none; else the old one stays
-  module _ (new : Found) (q : Looks g L t most (Some new)) where
-    pub best-new : (best : Option Found) → Best g L n t best → MatchOption best (most ≡ n) (λ old. most ≡ old.size) → IfSome best (GoesBefore new) → Best g L n (t + 1) (Some new)
-    best-new None p e b =
-        record {
-          some = (
-            omega (arith, q.some.0),
-            new_row g L t new q.some.1 (λ v k m f. omega (arith, q.some.0, p.none refl v k m f)) (λ v k m f s c. omega (arith, q.some.0, p.none refl v k m f)),
-          );
-          none = λ h. absurd (true≢false h);
-        }
-    best-new (Some old) p e b =
-        record {
-          some = (omega (arith, q.some.0, p.some.0), row-new g L t new old (omega (arith, p.some.0)) q.some.1 p.some.1 b);
-          none = λ h. absurd (true≢false h);
-        }
+    pub best-old : (best : Option (List ℕ)) → Best g L t size best → (GoesBefore (at new 0) best → ⊥) → Best g L (t + 1) size best
+    best-old best p l = kept best p (λ m f e. after best (row-least g L t size new wide q.some m f e) l)
+      where
+        after : {k : ℕ} (best : Option (List ℕ)) → at new 0 ≤ k → (GoesBefore (at new 0) best → ⊥) → IsSomeAnd best (λ row. at row 0 ≤ k)
+        after (Some old) a b = omega (arith, b)
+        after None a b = absurd (b tt)
 
-    pub best-old : (best : Option Found) → Best g L n t best → IsSomeAnd best (λ old. GoesBefore new old → ⊥) → Best g L n (t + 1) best
-    best-old (Some old) p b =
-        record {
-          some = (p.some.0, row-old g L t new old (omega (arith, p.some.0)) q.some.1 p.some.1 b);
-          none = λ h. absurd (true≢false h);
-        }
-    best-old None p b = elim b [ ]
+-- ---- the best of all events
+-- no closed row of its size comes before it: one that starts with the same number leaves the same event
+pub best-first : (g : Net) (L : List ℕ) (n size : ℕ) (row : List ℕ) → size ≤ row_bytes → Best g L n size (Some row) → (r : RowBelow g L n size row) → (v : ℕ) → v < n → (m : List ℕ) → From g L v m → length m ≡ size → m ≺ r.found.list → ⊥
+best-first g L n size row wide b r v h m f e o = go (dec_lt (at l 0) (at m 0))
+  where
+    l : List ℕ
+    l = r.found.list
 
-  -- and where no new one is found
-  pub best-kept : (best : Option Found) → Best g L n t best → MatchOption best (most ≡ n) (λ old. most ≡ old.size) → Looks g L t most None → Best g L n (t + 1) best
-  best-kept None p e q =
-      record { some = tt; none = λ _. split g L t (p.none refl) (λ m f. omega (arith, q.none refl m f)) }
-  best-kept (Some old) p e q =
-      record {
-        some = (p.some.0, old_row g L t old p.some.1 (λ m f. omega (arith, q.none refl m f)) (λ m f s c. omega (arith, q.none refl m f)));
-        none = λ h. absurd (true≢false h);
-      }
+    same : at m 0 ≡ at l 0 → v ≡ r.event
+    same i = sym (from_tail g L v m f) ∙ ap (λ (j : ℕ). tail g j) i ∙ from_tail g L r.event l r.found.first.closed
+
+    go : Dec (at l 0 < at m 0) → ⊥
+    go (yes k) = head-after m l k o
+    go (no k) =
+        let i : at m 0 ≡ at l 0 = omega (arith, k, b.least v h m f e, row-first g L r.event size row wide r.found) in
+        r.found.first.first m (subst (λ (u : ℕ). From g L u m) (same i) f) (e ∙ sym r.found.long) o

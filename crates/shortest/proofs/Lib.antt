@@ -5,3 +5,6 @@ pub mod Greedy
 pub mod Fronts
 pub mod Choosing
 pub mod Naming
+pub mod Newest
+pub mod Pairing
+pub mod Narrowing

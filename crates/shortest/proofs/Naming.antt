@@ -23,14 +23,14 @@ use Rattle.meaning.proofs.Reasoning.{shortest-is, shortest-one, shortest-few}
 use Rattle.problem.specs.Arcs.{Net, head, tail, bound, bias, arc}
 use Rattle.facts.specs.Tests.{Within, IsFact}
 use Rattle.facts.proofs.Joining.{each-fact, fact-each, within_in}
-use Rattle.shortest.specs.declared.Found.{Found}
-use Rattle.shortest.specs.Paths.{Path, sum, From}
+use Rattle.shortest.specs.Paths.{Path, sum, From, Fewest}
 use Rattle.shortest.specs.Best.{RowBelow, Best}
+use Rattle.shortest.proofs.Choosing.{best-first}
 
 -- ---- facts and their numbers
 module _ (g : Net) (L : List ℕ) where
   -- arcs are told apart by their numbers
-  arcs-numbered : Numbered (arc g) (map (arc g) L)
+  pub arcs-numbered : Numbered (arc g) (map (arc g) L)
   arcs-numbered = each-fact g (λ a. arc g a.no ≡ a) L (λ i l. refl)
 
   -- a fact is found by its number
@@ -59,10 +59,10 @@ module _ (g : Net) (L : List ℕ) where
   path-sum [] u v p = refl
   path-sum (j ∷ l) u v (f, e, p) = rw (fact-named j f) (omega (arith, sub-law (bound g j) bias, path-sum l (head g j) v p))
 
-  from-loops : (v : ℕ) (l : List ℕ) → From g L v l → T (loops (map (arc g) L) l)
+  pub from-loops : (v : ℕ) (l : List ℕ) → From g L v l → T (loops (map (arc g) L) l)
   from-loops v l f = loop-loops (map (arc g) L) l (record { node = v; way = path-way l v v f.path; below = omega (arith, path-sum l v v f.path, f.negative) })
 
-  loops-from : (l : List ℕ) → T (loops (map (arc g) L) l) → (v : ℕ) × From g L v l
+  pub loops-from : (l : List ℕ) → T (loops (map (arc g) L) l) → (v : ℕ) × From g L v l
   loops-from l t =
       let r = loops-loop (map (arc g) L) l t in
       let p = way-path l r.node r.node r.way in
@@ -78,27 +78,26 @@ module _ (g : Net) (L : List ℕ) where
         go : Path g L v (j ∷ l) v → v < n
         go (i, e, p) = omega (arith, e, ap (λ (x : ℕ). tail g x) i.same, (w.known.each i.place i.below).in_tail)
 
-    module _ (best : Found) (r : RowBelow g L n best) where
-      -- so no closed walk has fewer arcs than the best row
-      none-fewer : (l : List ℕ) → T (loops (map (arc g) L) l) → best.size ≤ length l
-      none-fewer l t = let (v, f) = loops-from l t in r.fewest v (from-event v l f) l f
+    -- facts with no timetable have a closed row of at most n
+    pub some-few : sound (map (arc g) L) ≡ false → (v : ℕ) × (l : List ℕ) × From g L v l × (length l ≤ n)
+    some-few e =
+        let l = shortest (map (arc g) L) in
+        let (v, f) = loops-from l (shortest-is (arc g) (map (arc g) L) arcs-numbered e).closed in
+        (v, l, f, shortest-few (arc g) (map (arc g) L) arcs-numbered e n (within_in g L n w))
 
-      best-shortest : Shortest (map (arc g) L) r.list
-      best-shortest =
+    module _ (size : ℕ) (wide : size ≤ row_bytes) (few : Fewest g L size) where
+      best-shortest : (row : List ℕ) → Best g L n size (Some row) → (r : RowBelow g L n size row) → Shortest (map (arc g) L) r.found.list
+      best-shortest row b r =
           record {
-            closed = from-loops r.event r.list r.closed;
-            fewest = λ l t. omega (arith, none-fewer l t, r.long);
-            first = λ l t e. let (v, f) = loops-from l t in r.first v (from-event v l f) l f (e ∙ r.long);
+            closed = from-loops r.event r.found.list r.found.first.closed;
+            fewest = λ l t. let (v, f) = loops-from l t in omega (arith, few.none v l f, r.found.long);
+            first = λ l t e. let (v, f) = loops-from l t in best-first g L n size row wide b r v (from-event v l f) l f (e ∙ r.found.long);
           }
 
-    -- facts with no timetable have a shortest reason, of at most n numbers; so the best row is there, it is a shortest reason too, and there is only one
-    pub best-names : (best : Option Found) → Best g L n n best → sound (map (arc g) L) ≡ false → IsSomeAnd best (λ b. b.row ≡ row_of row_bytes (cycle (map (arc g) L)))
-    unfolding row_of
-    best-names (Some best) b e =
-        let r = b.some.1 in
-        r.bytes ∙ ap (padded row_bytes) (shortest-one (arc g) (map (arc g) L) arcs-numbered e r.list (best-shortest best r))
-    best-names None b e =
-        let is = shortest-is (arc g) (map (arc g) L) arcs-numbered e in
-        let few = shortest-few (arc g) (map (arc g) L) arcs-numbered e n (within_in g L n w) in
-        let (v, f) = loops-from (shortest (map (arc g) L)) is.closed in
-        omega (arith, b.none refl v (from-event v _ f) _ f)
+      -- a closed row has as many facts, so the best row is there; it is a shortest reason, and there is only one
+      pub best-names : (best : Option (List ℕ)) → Best g L n size best → sound (map (arc g) L) ≡ false → IsSomeAnd best (λ row. row ≡ row_of row_bytes (cycle (map (arc g) L)))
+      unfolding row_of
+      best-names (Some row) b e =
+          let r = b.some in
+          r.found.bytes ∙ ap (padded row_bytes) (shortest-one (arc g) (map (arc g) L) arcs-numbered e r.found.list (best-shortest row b r))
+      best-names None b e = let r = few.row in elim (b.least few.event (from-event few.event r.list r.closed) r.list r.closed r.long) [ ]

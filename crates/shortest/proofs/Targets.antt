@@ -1,21 +1,21 @@
--- The rounds to a target, up to the first after which it stands above its start: how many facts a closed row from it has at the least. Assumes nothing.
+-- The rounds to a target, up to the first after which it stands above its start: how many facts a closed row from it has at the least, and that one has as many. Assumes nothing.
 use mathlib.Core.Path.{◌≡◌, refl, sym, ap, ◌∙◌}
+use mathlib.Core.Logic.{inl, inr}
 use mathlib.Core.List.{List, []}
 use Prim.Native.Nat.{ℕ, ◌+◌, ◌≤◌, ◌<◌}
-use mathlib.Core.Bool.{true≢false}
 use native.Mathlib.Omega.{arith}
 use native.Mathlib.Numerals.{add-one}
 use native.Mathlib.Decide.{dec_lt}
 use lib.ListN.{length, get_or}
-use Rattle.std.proofs.Common.{Some, None}
+use Rattle.std.proofs.Common.{None}
 use Rattle.meaning.specs.Limits.{most_events}
 use Rattle.problem.specs.Arcs.{Net, at}
 use Rattle.facts.specs.Tests.{Within}
 use Rattle.facts.specs.Rounds.{ceiling, round, rows, Rounds}
 use Rattle.facts.proofs.Tables.{next-round}
-use Rattle.shortest.specs.Paths.{From}
+use Rattle.shortest.specs.Paths.{From, Sized}
 use Rattle.shortest.specs.Heights.{turned, highest, peak, start, height, Lifts, Closes}
-use Rattle.shortest.proofs.Reaching.{height-bounded, target-height, none-higher}
+use Rattle.shortest.proofs.Reaching.{Reached, height-bounded, target-height, none-higher, some-as-high}
 
 -- ---- a turn of the rounds' loop
 module _ (g : Net) (L : List ℕ) (t : ℕ) (tab : List (List ℕ)) (r : ℕ) (h : Rounds (turned g) L (start t) r tab) where
@@ -44,6 +44,16 @@ module _ (g : Net) (L : List ℕ) (t r : ℕ) (tab : List (List ℕ)) (w : Withi
   pub closes-fewest : (m : List ℕ) → From g L t m → r ≤ length m
   closes-fewest = fewest_below g L t r w b c.below
 
+  -- what stands higher than any other start leads to comes from a row, and that is closed; so one has as many facts
+  pub closes-some : r ≤ most_events → Sized g L t r
+  closes-some m = go (some-as-high g L w t b r t)
+    where
+      go : Reached g L t r t → Sized g L t r
+      go (inl low) = absurd (omega (arith, c.above))
+      go (inr (l, p, h, e)) =
+          let f : From g L t l = record { path = p; negative = omega (arith, c.above) } in
+          record { list = l; closed = f; long = omega (arith, closes-fewest l f) }
+
   -- no row of the table passes the peak
   pub closes-small : r ≤ most_events → (k : ℕ) → k ≤ r → (v : ℕ) → at (get_or tab k []) v ≤ peak
   closes-small m k h v = rw (c.rounds.row k h) (omega (arith, height-bounded g L w t b k v))
@@ -51,7 +61,3 @@ module _ (g : Net) (L : List ℕ) (t r : ℕ) (tab : List (List ℕ)) (w : Withi
 -- where none of `most` rounds lifts the target, each closed row has more facts
 pub closes-none : (g : Net) (L : List ℕ) (t most : ℕ) (tab : List (List ℕ)) → Within (turned g) L most_events → t < most_events → Closes g L t most None tab → (m : List ℕ) → From g L t m → most < length m
 closes-none g L t most tab w b c m f = omega (arith, fewest_below g L t (most + 1) w b (λ k h. c.none refl k (omega arith)) m f)
-
--- rounds that were enough are as many as were asked
-pub closes-own : (g : Net) (L : List ℕ) (t most r : ℕ) (tab : List (List ℕ)) → Closes g L t most (Some r) tab → Closes g L t r (Some r) tab
-closes-own g L t most r tab c = record { some = (omega arith, c.some.1); none = λ e. absurd (true≢false e) }

@@ -1,34 +1,26 @@
--- The best of the rows from several events: with the fewest numbers, and first of those in dictionary order. Definitions only.
-use Rattle.std.specs.Prelude.{◌≡◌, ◌⊎◌, Option, IsNone, IfSome, List, ℕ, ◌≤◌, ◌<◌, length}
-use Rattle.meaning.specs.Limits.{row_bytes}
-use Rattle.meaning.specs.Plain.{◌≺◌}
-use Rattle.meaning.specs.Listing.{padded}
+-- The first of the closed rows of one size from several events: that from the event whose row has the smallest first number. Definitions only.
+use Rattle.std.specs.Prelude.{◌≡◌, Option, IsNone, IfSome, List, ℕ, ◌≤◌, ◌<◌, length}
+use Rattle.std.specs.Option.{IsSomeAnd}
 use Rattle.problem.specs.Arcs.{Net, at}
-use Rattle.shortest.specs.declared.Found.{Found}
 use Rattle.shortest.specs.Paths.{From}
 use Rattle.shortest.specs.Leading.{RowFrom}
 
--- what is found from t: its first row, if that has at most so many arcs; or no closed row has
-pub record Looks (g : Net) (L : List ℕ) (t most : ℕ) (found : Option Found) : Type 0 where
-  pub some : IfSome found (λ f. (f.size ≤ most) × RowFrom g L t f.size f.row)
-  pub none : IsNone found → (m : List ℕ) → From g L t m → most < length m
+-- what is found from t: the first closed row of `size` facts, if there is one
+pub record Looks (g : Net) (L : List ℕ) (t size : ℕ) (found : Option (List ℕ)) : Type 0 where
+  pub some : IfSome found (RowFrom g L t size)
+  pub none : IsNone found → (m : List ℕ) → From g L t m → size < length m
 
--- one row goes before another: it has fewer numbers, or as many and the smaller first
-abbrev pub GoesBefore : Found → Found → Type 0
-GoesBefore new old = (new.size < old.size) ⊎ ((new.size ≡ old.size) × (at new.row 0 < at old.row 0))
+-- a number goes before a row that is there: it is smaller than the row's first
+abbrev pub GoesBefore : ℕ → Option (List ℕ) → Type 0
+GoesBefore j best = IfSome best (λ row. j < at row 0)
 
--- a closed row from an event below t, the first of its size, then 255s; none has fewer numbers
-pub record RowBelow (g : Net) (L : List ℕ) (t : ℕ) (best : Found) : Type 0 where
+-- a row that was found from an event below t
+pub record RowBelow (g : Net) (L : List ℕ) (t size : ℕ) (row : List ℕ) : Type 0 where
   pub event : ℕ
   pub below : event < t
-  pub list : List ℕ
-  pub closed : From g L event list
-  pub long : length list ≡ best.size
-  pub bytes : best.row ≡ padded row_bytes list
-  pub fewest : (v : ℕ) → v < t → (m : List ℕ) → From g L v m → best.size ≤ length m
-  pub first : (v : ℕ) → v < t → (m : List ℕ) → From g L v m → length m ≡ best.size → m ≺ list → ⊥
+  pub found : RowFrom g L event size row
 
--- the best of those from events below t, if one has at most n arcs
-pub record Best (g : Net) (L : List ℕ) (n t : ℕ) (best : Option Found) : Type 0 where
-  pub some : IfSome best (λ b. (b.size ≤ n) × RowBelow g L t b)
-  pub none : IsNone best → (v : ℕ) → v < t → (m : List ℕ) → From g L v m → n < length m
+-- the best of those from events below t: it is there if any is, and no closed row of `size` facts starts with a smaller number
+pub record Best (g : Net) (L : List ℕ) (t size : ℕ) (best : Option (List ℕ)) : Type 0 where
+  pub some : IfSome best (RowBelow g L t size)
+  pub least : (v : ℕ) → v < t → (m : List ℕ) → From g L v m → length m ≡ size → IsSomeAnd best (λ row. at row 0 ≤ at m 0)

@@ -1,4 +1,4 @@
--- What leads a row of facts on: an arc to an event that lies high enough, the smallest number of a fact that is one, and the row that such numbers make. Definitions only.
+-- What leads a row of facts on: an arc to an event that lies high enough, the smallest number of a fact that is one, and the row that such numbers make; and the smallest number that a row from an event may start with. Definitions only.
 use Rattle.std.specs.Prelude.{◌≡◌, Option, IfSome, List, ℕ, ◌+◌, ◌≤◌, ◌<◌, length}
 use Rattle.std.specs.Option.{IsSomeAnd}
 use Rattle.meaning.specs.Limits.{row_bytes}
@@ -21,6 +21,11 @@ pub record Fits (g : Net) (L s : List ℕ) (u need j : ℕ) : Type 0 where
 pub record Picks (g : Net) (L s : List ℕ) (u need : ℕ) (pick : Option ℕ) : Type 0 where
   pub some : IfSome pick (Fits g L s u need)
   pub least : (j : ℕ) → Fits g L s u need j → IsSomeAnd pick (λ r. r ≤ j)
+
+-- the smallest number of a fact from event t, if there is one
+pub record Lowest (g : Net) (L : List ℕ) (t : ℕ) (low : Option ℕ) : Type 0 where
+  pub some : IfSome low (λ r. IsFact L r × (tail g r ≡ t))
+  pub least : (j : ℕ) → IsFact L j → tail g j ≡ t → IsSomeAnd low (λ r. r ≤ j)
 
 -- the first row from t, of `size` numbers, then 255s
 pub record RowFrom (g : Net) (L : List ℕ) (t size : ℕ) (row : List ℕ) : Type 0 where

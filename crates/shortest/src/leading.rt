@@ -4,7 +4,7 @@ ghost use Rattle.meaning.specs.Limits.{most_events};
 ghost use Rattle.problem.specs.Arcs.{at, net, Arc};
 ghost use Rattle.facts.specs.Tests.{Within};
 ghost use Rattle.shortest.specs.Heights.{peak, Lifts};
-ghost use Rattle.shortest.specs.Leading.{Leads, Picks, RowFrom};
+ghost use Rattle.shortest.specs.Leading.{Leads, Picks, Lowest, RowFrom};
 
 use crate::BLANK;
 use crate::heights::HIGHEST;
@@ -33,6 +33,20 @@ fn next_arc(arcs: &[Edge], facts: &[u8], u: usize, need: u32, heights: &[u32; EV
         }
     }
     best
+}
+
+// The smallest number of a fact from event t, which no row from t starts below.
+pub fn lowest(arcs: &[Edge], facts: &[u8], t: usize) -> Option<u8>
+    requires { Within (net arcs.now) facts.now most_events }
+    ensures { Lowest (net arcs.now) facts.now t result }
+{
+    let mut low: Option<u8> = None;
+    for &j in facts {
+        if usize::from(arcs[usize::from(j)].y) == t && low.is_none_or(|b| j < b) {
+            low = Some(j);
+        }
+    }
+    low
 }
 
 // The first closed row of `size` facts from t, by the rounds to t up to the first that lifts it.

@@ -7,4 +7,4 @@ use Rattle.search.proofs.leave.Goals as goal
 pub returns-in-Some : goal.returns-in-Some
 returns-in-Some c =
     let a = c.in-Some.ensures in
-    (record { visits = refl; rows = refl }, a.goes.0, a.goes.1, open_next (clauses_in c.args.p.now) _ _ a.goes.0)
+    (record { visits = refl; rows = refl }, a.goes.0, a.goes.1, open_next (clauses_in c.args.p.now) _ _ a.goes.0, a.goes.2)

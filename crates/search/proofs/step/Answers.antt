@@ -1,53 +1,34 @@
 -- `search::step` meets its contract: each of its ways is one of the five of the search. Assumes nothing.
-use mathlib.Core.Path.{◌≡◌, sym, ◌∙◌}
-use mathlib.Core.List.{[]}
+use mathlib.Core.Path.{sym, ◌∙◌}
+use Prim.Native.Nat.{◌+◌}
 use native.Mathlib.Omega.{arith}
-use lib.ListN.{length}
-use Prim.Native.Nat.{◌+◌, ◌≤◌}
-use Rattle.problem.specs.declared.Problem.{Problem}
-use Rattle.problem.specs.Arcs.{at}
-use Rattle.facts.specs.Tests.{places}
-use Rattle.held.specs.declared.Facts.{Facts}
-use Rattle.held.specs.Held.{held, Ready}
-use Rattle.search.specs.declared.Place.{Place}
-use Rattle.search.specs.Standing.{standing_facts, Inside}
-use Rattle.search.specs.Steps.{positions}
-use Rattle.search.proofs.Visiting.{own-facts, ready, steps-unsound, steps-stop, steps-found, steps-visit}
 use borrow.Author.Rules.{rules}
+use Rattle.taking.proofs.Taking.{table-small}
+use Rattle.search.proofs.Tables.{unsound-deep}
+use Rattle.search.proofs.Steps.{counted-on}
+use Rattle.search.proofs.Moving.{leaves-stacked, steps-unsound, steps-stop, steps-found}
 use Rattle.search.proofs.step.Goals as goal
 
--- the buffer with the facts of the place's standing is ready for tests
-own-ready : {p : Problem} (s : Place) (f : Facts) → length s.standing.picks ≡ 32 → Inside p s.standing.picks s.standing.k → (held f ≡ standing_facts p.starts 0 (positions s) []) × (places ≤ f.at + at p.starts s.standing.k) → Ready p f
-own-ready s f long inside h = ready _ s long inside f h.0 h.1
+pub put_unsound-requires : goal.put_unsound-requires
+put_unsound-requires g c =
+    let p = c.args.p.now in
+    let s = c.args.s.standing in
+    let unsound = sym c.enters.ensures.decides ∙ c.if-not-enters.true in
+    let (all, row) = table-small g.row.W c.requires.2.roomy.few in
+    (all, (row, (c.requires.0.inside, unsound-deep p s.picks s.k unsound, c.enters.ensures.stays, unsound, omega (arith, c.requires.0.few))))
 
-pub tested-requires : goal.tested-requires
-tested-requires c = own-ready c.args.s c.facts_of-f.result (search rules) c.requires.0.inside c.facts_of-f.ensures
-
-pub put_reason-requires : goal.put_reason-requires
-put_reason-requires c =
-    let f = own-ready c.args.s c.facts_of-f.result (search rules) c.requires.0.inside c.facts_of-f.ensures in
-    (f.within, sym c.tested.ensures.decides ∙ c.if-is_none.ensures, omega (arith, c.requires.0.few))
-
-pub returns-then-is_none : goal.returns-then-is_none
-returns-then-is_none c =
-    let f = c.facts_of-f.result in
-    steps-unsound c.args.p.now c.args.allowance c.args.s (search rules) c.requires.0 f (own-facts _ c.args.s (search rules) c.requires.0.inside f c.facts_of-f.ensures.0) c.args.reasons.now c.leave.result c.put_reason.new.reasons c.put_reason.ensures (sym c.tested.ensures.decides ∙ c.if-is_none.ensures) c.leave.ensures
+pub returns-then-not-enters : goal.returns-then-not-enters
+returns-then-not-enters g c =
+    let p = c.args.p.now in
+    let s = c.args.s in (
+      steps-unsound p c.args.allowance s (search rules) c.requires.0 c.args.reasons.now c.put_unsound.new.reasons c.leave.result (sym c.enters.ensures.decides ∙ c.if-not-enters.true) c.put_unsound.ensures.0 c.put_unsound.ensures.1 c.leave.ensures,
+      leaves-stacked g.row.W p (counted-on s s.visits (s.rows + 1)) c.leave.result c.put_unsound.new.days (search rules) c.requires.0.inside c.leave.ensures c.put_unsound.ensures.2,
+    )
 
 pub returns-then-allowance-s : goal.returns-then-allowance-s
-returns-then-allowance-s c =
-    let f = c.facts_of-f.result in
-    steps-stop c.args.p.now c.args.allowance c.args.s (search rules) c.requires.0 f (own-facts _ c.args.s (search rules) c.requires.0.inside f c.facts_of-f.ensures.0) c.args.reasons.now (sym c.tested.ensures.decides ∙ c.if-is_none.ensures) (omega arith)
+returns-then-allowance-s g c =
+    (steps-stop c.args.p.now c.args.allowance c.args.s (search rules) c.requires.0 c.args.reasons.now (sym c.enters.ensures.decides ∙ c.if-not-enters.false) c.if-allowance-s.true, c.enters.ensures.stays.roomy)
 
 pub returns-then-s-p : goal.returns-then-s-p
-returns-then-s-p c =
-    let f = c.facts_of-f.result in
-    steps-found c.args.p.now c.args.allowance c.args.s (search rules) c.requires.0 f (own-facts _ c.args.s (search rules) c.requires.0.inside f c.facts_of-f.ensures.0) c.args.reasons.now (sym c.tested.ensures.decides ∙ c.if-is_none.ensures) (omega arith) (omega arith)
-
-pub visit-requires : goal.visit-requires
-visit-requires c =
-    (own-ready c.args.s c.facts_of-f.result (search rules) c.requires.0.inside c.facts_of-f.ensures, c.requires.0.inside, omega (arith, c.requires.0.inside.few), omega (arith, c.requires.0.few), omega (arith, c.requires.0.spent))
-
-pub returns : goal.returns
-returns c =
-    let f = c.facts_of-f.result in
-    steps-visit c.args.p.now c.args.allowance c.args.s (search rules) c.requires.0 f (own-facts _ c.args.s (search rules) c.requires.0.inside f c.facts_of-f.ensures.0) c.args.reasons.now c.visit.result c.visit.new.reasons (sym c.tested.ensures.decides ∙ c.if-is_none.ensures) (omega arith) c.visit.ensures
+returns-then-s-p g c =
+    (steps-found c.args.p.now c.args.allowance c.args.s (search rules) c.requires.0 c.args.reasons.now (sym c.enters.ensures.decides ∙ c.if-not-enters.false) (omega arith) (omega arith), c.enters.ensures.stays.roomy)

@@ -24,6 +24,7 @@ returns-then-next-p c =
       goes = (
         sym c.loop-i.invariant ∙ ap (λ (d : ℕ). next (clauses_in c.args.p.now) (take d s.picks)) whole ∙ next-on c.args.p.now s.picks s.k (i - 1) c.requires (omega arith) long room,
         inside_on c.args.p.now s.picks s.k (i - 1) c.requires (omega arith) long room,
+        search rules,
       );
       ends = λ e. absurd (true≢false e);
     }

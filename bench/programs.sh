@@ -21,7 +21,8 @@ clock=$root/bench/clock/target/release/clock
 table=("$TABLE")
 # Jumps are kept off the ends of blocks of 32 bytes, at which some Intel processors are slow: else it hangs on where a loop
 # happens to lie, and the simple planner was seen to take 30 % longer at the same instructions.
-padded=(-C llvm-args=-x86-branches-within-32B-boundaries)
+# And they are built for the processors that the kit builds the table for.
+padded=(-C llvm-args=-x86-branches-within-32B-boundaries -C target-cpu=x86-64-v2)
 simple=("$("$root/bench/build" "$root/bench/simple" simple "${padded[@]}")")
 same=("$("$root/bench/build" "$root/bench/same" same "${padded[@]}")")
 

@@ -3,6 +3,7 @@
 
 #![no_main]
 
+mod clauses;
 #[path = "../../common/dialogue.rs"]
 mod dialogue;
 #[path = "../../common/facts.rs"]
@@ -13,9 +14,10 @@ mod listing;
 mod planner;
 #[path = "../../common/problem.rs"]
 mod problem;
-mod reason;
 mod search;
-mod stack;
+mod shortest;
+mod table;
+mod taking;
 
 /// Started as C starts a program: Rust's own start looks up the stack's place, and the kit's emulator fails there.
 #[no_mangle]

@@ -122,7 +122,8 @@ fn put_clause<const W: usize>(
     }
 }
 
-// The cycle rows of the dead clause d of a sound standing, whose day is lent, from row number `rows` on; the number of the row after them.
+// The cycle rows of the dead clause d of a sound standing, whose day is lent, from row number `rows` on; the number of the row after them. Where the first has no
+// room none has, and the standing's facts are not looked for: so a run without room costs nothing for rows.
 pub fn put_cycles<const W: usize>(
     p: &Problem,
     s: Standing,

@@ -119,8 +119,8 @@ pub fn takes<const W: usize>(
     }
 }
 
-// Whether no arc from number `from` up to, and without, `end` has a timetable with the facts of the day. All are looked at: a way out of the loop costs
-// more than a look.
+// Whether no arc from number `from` up to, and without, `end` has a timetable with the facts of the day. All are looked at, so that there is one branch for
+// them all: a look is cheap, and what stopping at the first that has one gains did not show in time.
 pub fn is_dead<const W: usize>(day: &[[u32; W]; W], arcs: &[Edge], from: usize, end: usize) -> bool
     requires { (W ≤ most_events) × (from ≤ end) × (end ≤ most_alternatives) × ((j : ℕ) → j < end → Arc (net arcs.now) W j) × Held W day.now }
     ensures { (fs : List Alternative) → IsDay W fs day.now → result ≡ dead sound fs (arcs_from (net arcs.now) from (end - from)) }

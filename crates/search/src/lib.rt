@@ -65,7 +65,7 @@ fn leave(p: &Problem, s: Place) -> ControlFlow<End, Place>
 }
 
 // A visit of a sound standing short of the last clause, whose day is the table at its depth: closed by its lowest dead clause, or left for position 0 of the next
-// clause.
+// clause. Of the allowance the contract alone speaks.
 fn visit<const W: usize>(
     p: &Problem,
     allowance: u64,

@@ -8,11 +8,11 @@ ghost use Rattle.problem.specs.Arcs.{at, bias, farthest};
 ghost use Rattle.distances.specs.Numbers.{Stands};
 ghost use Rattle.taking.specs.Tables.{level, turn, entry, Near, IsDay, Held, table_at, Tall, Beside, RowLowered};
 
-use distances::Fact;
-use problem::{BIAS, EVENTS};
+use distances::{Fact, MIDDLE};
+use problem::BIAS;
 
 // No two events of a latest timetable lie further apart.
-const FARTHEST: u32 = (EVENTS as u32 - 1) * BIAS;
+const FARTHEST: u32 = MIDDLE - 1;
 
 // The number of the distance 0.
 const LEVEL: u32 = 2 * FARTHEST + BIAS;

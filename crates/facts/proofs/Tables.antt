@@ -8,6 +8,7 @@ use native.Mathlib.Numerals.{add-one}
 use native.Mathlib.Decide.{dec_le}
 use lib.ListN.{length, get_or, set}
 use lib.Seq.{get_or-set_same, get_or-set_other}
+use Rattle.std.proofs.lemmas.List.{set-set}
 use borrow.Author.Count.{below_more}
 use Rattle.std.proofs.Common.{Option, Some, None, IsSome, IsNone}
 use Rattle.problem.specs.declared.Edge.{Edge}
@@ -23,28 +24,48 @@ unfolding upto relax
 upto-more g L s nxt i j x y r a b c d e = rw (add-one i) (cc)
 
 -- the same by the arc as it is kept, or turned round
-pub upto-kept : (turn : Bool) (l : List Edge) (L s nxt : List ℕ) (i j x y r : ℕ) → nxt ≡ upto (aimed turn (net l)) L s i → j ≡ at L i → x ≡ cond turn (get_or l j no_edge).y (get_or l j no_edge).x → y ≡ cond turn (get_or l j no_edge).x (get_or l j no_edge).y → r ≡ max (at nxt x) (at s y + bias - (get_or l j no_edge).b) → set nxt x r ≡ upto (aimed turn (net l)) L s (i + 1)
+upto-kept : (turn : Bool) (l : List Edge) (L s nxt : List ℕ) (i j x y r : ℕ) → nxt ≡ upto (aimed turn (net l)) L s i → j ≡ at L i → x ≡ cond turn (get_or l j no_edge).y (get_or l j no_edge).x → y ≡ cond turn (get_or l j no_edge).x (get_or l j no_edge).y → r ≡ max (at nxt x) (at s y + bias - (get_or l j no_edge).b) → set nxt x r ≡ upto (aimed turn (net l)) L s (i + 1)
 upto-kept true l L s nxt i j x y r a b c d e =
     upto-more (turned (net l)) L s nxt i j x y r a b (c ∙ sym (tail-is l j)) (d ∙ sym (head-is l j)) (rw (← bound-is l j) at e)
 upto-kept false l L s nxt i j x y r a b c d e =
     upto-more (net l) L s nxt i j x y r a b (c ∙ sym (head-is l j)) (d ∙ sym (tail-is l j)) (rw (← bound-is l j) at e)
+
+-- a round from row k that is made in the row after it: what the table holds after its first i facts
+module _ (turn : Bool) (l : List Edge) (L : List ℕ) (t u : List (List ℕ)) (k i : ℕ) (e : u ≡ set t (k + 1) (upto (aimed turn (net l)) L (get_or t k []) i)) where
+  -- row k stays
+  pub row-still : get_or u k [] ≡ get_or t k []
+  row-still = ap (λ (s : List (List ℕ)). get_or s k []) e ∙ get_or-set_other t (k + 1) k _ [] (omega arith)
+
+  -- a turn of its loop
+  pub row-raised : k + 1 < length t → (j x y r : ℕ) → j ≡ at L i → x ≡ cond turn (get_or l j no_edge).y (get_or l j no_edge).x → y ≡ cond turn (get_or l j no_edge).x (get_or l j no_edge).y → r ≡ max (at (get_or u (k + 1) []) x) (at (get_or u k []) y + bias - (get_or l j no_edge).b) → set u (k + 1) (set (get_or u (k + 1) []) x r) ≡ set t (k + 1) (upto (aimed turn (net l)) L (get_or t k []) (i + 1))
+  row-raised h j x y r b c d f =
+      let here : get_or u (k + 1) [] ≡ upto (aimed turn (net l)) L (get_or t k []) i = ap (λ (s : List (List ℕ)). get_or s (k + 1) []) e ∙ get_or-set_same t (k + 1) _ [] h in
+      ap (set u (k + 1)) (upto-kept turn l L (get_or t k []) (get_or u (k + 1) []) i j x y r here b c d (rw row-still at f))
+      ∙ ap (λ (s : List (List ℕ)). set s (k + 1) (upto (aimed turn (net l)) L (get_or t k []) (i + 1))) e
+      ∙ set-set t (k + 1) _ _
 
 module _ (g : Net) (L z : List ℕ) (t : List (List ℕ)) where
   pub rounds-first : get_or t 0 [] ≡ z → (k : ℕ) → k ≤ 0 → Rounds g L z k t
   unfolding rows
   rounds-first e k l = record { row = λ i h. let q : i ≡ 0 = omega arith in rw q e }
 
-  -- a round from row k is round k + 1
-  pub next-round : (k : ℕ) → Rounds g L z k t → (r : List ℕ) → r ≡ round g L (get_or t k []) → r ≡ rows g L z (suc k)
-  next-round k h r e = e ∙ unfold rows in ap (λ (s : List ℕ). round g L s) (h.row k (omega arith))
-
-  -- a turn of the rounds' loop
-  pub rounds-more : (k : ℕ) → Rounds g L z k t → k + 1 < length t → (r : List ℕ) → r ≡ round g L (get_or t k []) → Rounds g L z (k + 1) (set t (k + 1) r)
-  rounds-more k h l r e = record { row = λ i b. go i b (dec_le i k) }
+  -- a turn of the rounds' loop: a round from row k is round k + 1
+  pub rounds-more : (k : ℕ) → Rounds g L z k t → k + 1 < length t → (u : List (List ℕ)) → u ≡ set t (k + 1) (round g L (get_or t k [])) → Rounds g L z (k + 1) u
+  rounds-more k h l u e = record { row = λ i b. ap (λ (s : List (List ℕ)). get_or s i []) e ∙ go i b (dec_le i k) }
     where
+      r : List ℕ
+      r = round g L (get_or t k [])
+
+      next : r ≡ rows g L z (suc k)
+      next = unfold rows in ap (λ (s : List ℕ). round g L s) (h.row k (omega arith))
+
       go : (i : ℕ) → i ≤ k + 1 → Dec (i ≤ k) → get_or (set t (k + 1) r) i [] ≡ rows g L z i
       go i b (yes c) = get_or-set_other t (k + 1) i r [] (omega arith) ∙ h.row i c
-      go i b (no c) = let q : i ≡ k + 1 = omega arith in rw q (get_or-set_same t (k + 1) r [] l ∙ next-round k h r e ∙ ap (λ (m : ℕ). rows g L z m) (sym (add-one k)))
+      go i b (no c) = let q : i ≡ k + 1 = omega arith in rw q (get_or-set_same t (k + 1) r [] l ∙ next ∙ ap (λ (m : ℕ). rows g L z m) (sym (add-one k)))
+
+  -- the last row is that of the last round
+  pub last-row : (k : ℕ) → Rounds g L z (k + 1) t → get_or t (k + 1) [] ≡ rows g L z (suc k)
+  last-row k h = h.row (k + 1) (omega arith) ∙ ap (λ (m : ℕ). rows g L z m) (add-one k)
 
   -- the rounds may end after one that changed no time, since all that follow it leave the times as they are
   pub ended-still : (n k : ℕ) → k < n → rows g L z (suc k) ≡ rows g L z k → Rounds g L z (k + 1) t → Moving g L z k → Ended g L z n (k + 1) t
@@ -64,8 +85,8 @@ module _ (g : Net) (L z : List ℕ) (t : List (List ℕ)) where
   rounds-small w m b long u n k h l q v = rw (h.row k l) (omega (arith, rows-bounded g L w b z long m u k v))
 
 -- a store in a row leaves the rows after it
-pub stays-stored : (s t : List (List ℕ)) (r : List ℕ) (k m : ℕ) → k ≤ m → Stays k s t → Stays m s (set t m r)
-stays-stored s t r k m l h = record { same = λ i b. get_or-set_other t m i r [] (omega arith) ∙ h.same i (omega arith) }
+pub stays-stored : (s t u : List (List ℕ)) (r : List ℕ) (k m : ℕ) → k ≤ m → u ≡ set t m r → Stays k s t → Stays m s u
+stays-stored s t u r k m l e h = record { same = λ i b. ap (λ (v : List (List ℕ)). get_or v i []) e ∙ get_or-set_other t m i r [] (omega arith) ∙ h.same i (omega arith) }
 
 -- rows that stay from a store before them on stay from before it on
 pub stays-since : (s t : List (List ℕ)) (r : List ℕ) (m k : ℕ) → m ≤ k → Stays k (set s m r) t → Stays k s t

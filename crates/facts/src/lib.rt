@@ -24,11 +24,9 @@ fn test_from(arcs: &[Edge], facts: &[u8], n: usize, start: [u32; EVENTS]) -> Opt
 {
     let mut t = [[0; EVENTS]; ROWS];
     let k = put_rounds(arcs, facts, n, start, &mut t);
-    let last = t[k];
-    let before = t[k - 1];
-    match rising(before, last, n) {
+    match rising(&t[k - 1], &t[k], n) {
         Some(_) => None,
-        None => Some(before),
+        None => Some(t[k - 1]),
     }
 }
 

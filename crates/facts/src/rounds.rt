@@ -1,5 +1,5 @@
 // The rounds of a test: in a round each fact raises the time of its head, going by the times before the round. They end with the first that raises no event.
-ghost use Rattle.std.specs.Prelude.{◌≡◌, ℕ, ◌+◌, ◌-◌, ◌≤◌, max, length};
+ghost use Rattle.std.specs.Prelude.{◌≡◌, ℕ, [], ◌+◌, ◌-◌, ◌<◌, ◌≤◌, max, length, get_or, set};
 ghost use Rattle.meaning.specs.Limits.{most_events};
 ghost use Rattle.problem.specs.Arcs.{at, net};
 ghost use Rattle.facts.specs.Tests.{farthest, Within};
@@ -18,16 +18,13 @@ fn raised(old: u32, u: u32, b: u32) -> u32
     if b <= u { old.max(u - b) } else { old }
 }
 
-// One round of all facts, or of all facts turned round: one function for both ways, as `aimed` says them.
-pub fn round_of<const TURNED: bool>(
-    arcs: &[Edge],
-    facts: &[u8],
-    cur: [u32; EVENTS],
-) -> [u32; EVENTS]
-    requires { Within (net arcs.now) facts.now most_events × ((v : ℕ) → at cur v ≤ ceiling) }
-    ensures { result ≡ round (aimed TURNED (net arcs.now)) facts.now cur }
+// A round of all facts, or of all facts turned round, from row k of the lent table, as its row k + 1: one function for both ways, as `aimed` says them.
+// It is made where it lies: handed over by value each row was copied three times (docs/DECISIONS.md, "What is put is put where it lies").
+pub fn put_round<const TURNED: bool>(arcs: &[Edge], facts: &[u8], t: &mut [[u32; EVENTS]], k: usize)
+    requires { Within (net arcs.now) facts.now most_events × (k + 1 < length t.old) × ((v : ℕ) → at (get_or t.old k []) v ≤ ceiling) }
+    ensures { t.new ≡ set t.old (k + 1) (round (aimed TURNED (net arcs.now)) facts.now (get_or t.old k [])) }
 {
-    let mut nxt = cur;
+    t[k + 1] = t[k];
     for &fact in facts {
         let arc = &arcs[usize::from(fact)];
         let (x, y) = if TURNED {
@@ -37,9 +34,8 @@ pub fn round_of<const TURNED: bool>(
         };
         let x = usize::from(x);
         let y = usize::from(y);
-        nxt[x] = raised(nxt[x], cur[y] + BIAS, arc.b);
+        t[k + 1][x] = raised(t[k + 1][x], t[k][y] + BIAS, arc.b);
     }
-    nxt
 }
 
 // The rounds from start in a lent table, row k with the times after k of them, until one raises no event or n are made; gives how many were. The rows after them stay.
@@ -56,10 +52,8 @@ pub fn put_rounds(
 {
     t[0] = start;
     for k in 0..n {
-        let cur = t[k];
-        let nxt = round_of::<false>(arcs, facts, cur);
-        t[k + 1] = nxt;
-        if rising(cur, nxt, n).is_none() {
+        put_round::<false>(arcs, facts, t, k);
+        if rising(&t[k], &t[k + 1], n).is_none() {
             return k + 1;
         }
     }
@@ -67,9 +61,9 @@ pub fn put_rounds(
 }
 
 // The first of n events that a round raised.
-pub fn rising(before: [u32; EVENTS], after: [u32; EVENTS], n: usize) -> Option<usize>
+pub fn rising(before: &[u32; EVENTS], after: &[u32; EVENTS], n: usize) -> Option<usize>
     requires { n ≤ most_events }
-    ensures { Rising n before after result }
+    ensures { Rising n before.now after.now result }
 {
     (0..n).find(|&v| before[v] < after[v])
 }

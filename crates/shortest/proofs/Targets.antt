@@ -1,28 +1,22 @@
 -- The rounds to a target, up to the first after which it stands above its start: how many facts a closed row from it has at the least, and that one has as many. Assumes nothing.
-use mathlib.Core.Path.{◌≡◌, refl, sym, ap, ◌∙◌}
+use mathlib.Core.Path.{◌≡◌, refl}
 use mathlib.Core.Logic.{inl, inr}
 use mathlib.Core.List.{List, []}
 use Prim.Native.Nat.{ℕ, ◌+◌, ◌≤◌, ◌<◌}
 use native.Mathlib.Omega.{arith}
-use native.Mathlib.Numerals.{add-one}
 use native.Mathlib.Decide.{dec_lt}
 use lib.ListN.{length, get_or}
 use Rattle.std.proofs.Common.{None}
 use Rattle.meaning.specs.Limits.{most_events}
 use Rattle.problem.specs.Arcs.{Net, at}
 use Rattle.facts.specs.Tests.{Within}
-use Rattle.facts.specs.Rounds.{ceiling, round, rows, Rounds}
-use Rattle.facts.proofs.Tables.{next-round}
+use Rattle.facts.specs.Rounds.{ceiling, Rounds}
 use Rattle.shortest.specs.Paths.{From, Sized}
 use Rattle.shortest.specs.Heights.{turned, highest, peak, start, height, Lifts, Closes}
 use Rattle.shortest.proofs.Reaching.{Reached, height-bounded, target-height, none-higher, some-as-high}
 
 -- ---- a turn of the rounds' loop
 module _ (g : Net) (L : List ℕ) (t : ℕ) (tab : List (List ℕ)) (r : ℕ) (h : Rounds (turned g) L (start t) r tab) where
-  -- the round from row r gives the heights after r + 1
-  pub round-height : (nxt : List ℕ) → nxt ≡ round (turned g) L (get_or tab r []) → (u : ℕ) → at nxt u ≡ height g L t (r + 1) u
-  round-height nxt e u = ap (λ (s : List ℕ). at s u) (next-round (turned g) L (start t) tab r h nxt e ∙ ap (λ (k : ℕ). rows (turned g) L (start t) k) (sym (add-one r)))
-
   -- each of the rounds starts at or below their ceiling: the target's start and a bias for each round before it
   pub row_under : Within (turned g) L most_events → t < most_events → r < most_events → (v : ℕ) → at (get_or tab r []) v ≤ ceiling
   row_under w b l v = rw (h.row r (omega arith)) (omega (arith, height-bounded g L w t b r v))

@@ -5,7 +5,7 @@ ghost use Rattle.problem.specs.Arcs.{net};
 ghost use Rattle.facts.specs.Tests.{Within};
 ghost use Rattle.shortest.specs.Heights.{start, Closes};
 
-use facts::rounds::{ROWS, round_of};
+use facts::rounds::{ROWS, put_round};
 use problem::{BIAS, EVENTS, Edge};
 
 // The height of the target: a bias for each arc of a row.
@@ -36,10 +36,8 @@ pub fn rounds_to(
 {
     tab[0] = start_at(t);
     for r in 0..most {
-        let cur = tab[r];
-        let nxt = round_of::<true>(arcs, facts, cur);
-        tab[r + 1] = nxt;
-        if HIGHEST < nxt[t] {
+        put_round::<true>(arcs, facts, tab, r);
+        if HIGHEST < tab[r + 1][t] {
             return Some(r + 1);
         }
     }

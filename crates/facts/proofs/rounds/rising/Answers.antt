@@ -18,7 +18,7 @@ find-requires c =
 
 pub returns : goal.returns
 returns c =
-    found-rising c.args.n c.args.before c.args.after c.find.result
-    (first_from_Range _ _ _ _ (λ v. at c.args.before v < at c.args.after v) (λ v. at c.args.after v ≤ at c.args.before v) c.find.ensures.ran
+    found-rising c.args.n c.args.before.now c.args.after.now c.find.result
+    (first_from_Range _ _ _ _ (λ v. at c.args.before.now v < at c.args.after.now v) (λ v. at c.args.after.now v ≤ at c.args.before.now v) c.find.ensures.ran
     (λ x q k. grind (arith, tests))
     (λ x q k. (search rules, grind (arith, tests))))

@@ -20,6 +20,7 @@ pub struct Facts {
     pub buffer: [u8; PLACES],
     pub at: usize,
     ghost fits: { at ≤ places },
+    ghost full: { length buffer ≡ places },
 }
 
 impl Facts {
@@ -35,14 +36,13 @@ impl Facts {
         }
     }
 
-    // The facts with arc j before them.
-    pub fn put(mut self, j: u8) -> Facts
-        requires { 1 ≤ self.at }
-        ensures { (held result ≡ j ∷ held self) × (result.at + 1 ≡ self.at) }
+    // Arc j is put before the facts, which are lent: by value each arc moved the buffer twice (docs/DECISIONS.md, "What is put is put where it lies").
+    pub fn put(&mut self, j: u8)
+        requires { 1 ≤ self.old.at }
+        ensures { (held self.new ≡ j ∷ held self.old) × (self.new.at + 1 ≡ self.old.at) }
     {
         self.at -= 1;
         self.buffer[self.at] = j;
-        self
     }
 
     // The test of the facts.
@@ -62,9 +62,9 @@ impl Facts {
     }
 
     // The shortest reason of facts that have no timetable, of which those after the `news` newest have one, as a row.
-    pub fn reason(self, p: &Problem, news: usize) -> [u8; ROW]
-        requires { Within (arcs p.now) (held self) p.now.n × (sound (facts_in p.now self) ≡ false) × (news ≤ length (held self)) × (sound (map (arc (arcs p.now)) (drop news (held self))) ≡ true) }
-        ensures { result ≡ row_of row_bytes (cycle (facts_in p.now self)) }
+    pub fn reason(&self, p: &Problem, news: usize) -> [u8; ROW]
+        requires { Within (arcs p.now) (held self.now) p.now.n × (sound (facts_in p.now self.now) ≡ false) × (news ≤ length (held self.now)) × (sound (map (arc (arcs p.now)) (drop news (held self.now))) ≡ true) }
+        ensures { result ≡ row_of row_bytes (cycle (facts_in p.now self.now)) }
     {
         shortest::reason(&p.arcs, &self.buffer[self.at..], news, p.n)
     }

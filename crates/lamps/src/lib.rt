@@ -25,7 +25,7 @@ fn forced_facts(p: &Problem) -> Facts
     for k in (0..p.m).rev() {
         let from = p.starts[k];
         if p.starts[k + 1] - from == 1 {
-            f = f.put(from);
+            f.put(from);
         }
     }
     f

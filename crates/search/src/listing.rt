@@ -55,9 +55,9 @@ pub fn put_row(reasons: &mut [u8], rows: usize, row: [u8; ROW])
 
 // Row number `rows` of the list, where there is room for it: the shortest reason of the facts f, which is worked out only there. Those after the first `news`
 // have a timetable.
-fn put_reason(p: &Problem, f: Facts, news: usize, reasons: &mut [u8], rows: usize)
-    requires { Within (arcs p.now) (held f) p.now.n × (sound (facts_in p.now f) ≡ false) × (news ≤ length (held f)) × (sound (map (arc (arcs p.now)) (drop news (held f))) ≡ true) × (rows ≤ most_rows) }
-    ensures { reasons.new ≡ put_row reasons.old rows (row_of row_bytes (cycle (facts_in p.now f))) }
+fn put_reason(p: &Problem, f: &Facts, news: usize, reasons: &mut [u8], rows: usize)
+    requires { Within (arcs p.now) (held f.now) p.now.n × (sound (facts_in p.now f.now) ≡ false) × (news ≤ length (held f.now)) × (sound (map (arc (arcs p.now)) (drop news (held f.now))) ≡ true) × (rows ≤ most_rows) }
+    ensures { reasons.new ≡ put_row reasons.old rows (row_of row_bytes (cycle (facts_in p.now f.now))) }
 {
     if has_room(reasons, rows) {
         put_row(reasons, rows, f.reason(p, news));
@@ -67,13 +67,13 @@ fn put_reason(p: &Problem, f: Facts, news: usize, reasons: &mut [u8], rows: usiz
 // The same where only the newest of the facts f has no timetable with the others, whose day is lent: so the reason is looked for among fewer.
 fn put_closing<const W: usize>(
     p: &Problem,
-    f: Facts,
+    f: &Facts,
     day: &[[u32; W]; W],
     reasons: &mut [u8],
     rows: usize,
 )
-    requires { Within (arcs p.now) (held f) p.now.n × (f.at < places) × (sound (facts_in p.now f) ≡ false) × (p.now.n ≤ W) × (W ≤ most_events) × IsDay W (map (arc (arcs p.now)) (older f)) day.now × (rows ≤ most_rows) }
-    ensures { reasons.new ≡ put_row reasons.old rows (row_of row_bytes (cycle (facts_in p.now f))) }
+    requires { Within (arcs p.now) (held f.now) p.now.n × (f.now.at < places) × (sound (facts_in p.now f.now) ≡ false) × (p.now.n ≤ W) × (W ≤ most_events) × IsDay W (map (arc (arcs p.now)) (older f.now)) day.now × (rows ≤ most_rows) }
+    ensures { reasons.new ≡ put_row reasons.old rows (row_of row_bytes (cycle (facts_in p.now f.now))) }
 {
     if has_room(reasons, rows) {
         put_row(reasons, rows, narrowed(p, f, day).reason(p, 1));
@@ -98,8 +98,8 @@ pub fn put_unsound<const W: usize>(
         let first = usize::from(p.starts[above]);
         let pick = usize::from(s.picks[above]);
         match passes_all(days, above, s.k, &p.arcs, first, first + pick) {
-            Some(base) => put_closing(p, f, &days[base], reasons, rows),
-            None => put_reason(p, f, pick + 1, reasons, rows),
+            Some(base) => put_closing(p, &f, &days[base], reasons, rows),
+            None => put_reason(p, &f, pick + 1, reasons, rows),
         }
     }
 }
@@ -107,18 +107,20 @@ pub fn put_unsound<const W: usize>(
 // The cycle rows of the dead clause d under the facts f, whose day is lent, from row number `rows` on.
 fn put_clause<const W: usize>(
     p: &Problem,
-    f: Facts,
+    f: &Facts,
     d: usize,
     day: &[[u32; W]; W],
     reasons: &mut [u8],
     rows: usize,
 )
-    requires { Ready p.now f × (p.now.n ≤ W) × (W ≤ most_events) × IsDay W (facts_in p.now f) day.now × (d < p.now.m) × (dead sound (facts_in p.now f) (clause_of p.now d) ≡ true) × (rows + 4 ≤ most_rows) }
-    ensures { Keeps reasons.old reasons.new rows (map (λ a. cycle (a ∷ facts_in p.now f)) (clause_of p.now d)) }
+    requires { Ready p.now f.now × (p.now.n ≤ W) × (W ≤ most_events) × IsDay W (facts_in p.now f.now) day.now × (d < p.now.m) × (dead sound (facts_in p.now f.now) (clause_of p.now d) ≡ true) × (rows + 4 ≤ most_rows) }
+    ensures { Keeps reasons.old reasons.new rows (map (λ a. cycle (a ∷ facts_in p.now f.now)) (clause_of p.now d)) }
 {
     let first = p.starts[d];
     for j in first..p.starts[d + 1] {
-        put_closing(p, f.put(j), day, reasons, rows + usize::from(j - first));
+        let mut with = *f;
+        with.put(j);
+        put_closing(p, &with, day, reasons, rows + usize::from(j - first));
     }
 }
 
@@ -136,7 +138,7 @@ pub fn put_cycles<const W: usize>(
     ensures { Keeps reasons.old reasons.new rows (map (λ a. cycle (a ∷ facts_at p.now s.picks s.k)) (clause_of p.now d)) × (result ≡ rows + size_of p.now d) }
 {
     if has_room(reasons, rows) {
-        put_clause(p, facts_of(p, s), d, day, reasons, rows);
+        put_clause(p, &facts_of(p, s), d, day, reasons, rows);
     }
     rows + usize::from(p.starts[d + 1] - p.starts[d])
 }

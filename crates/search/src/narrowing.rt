@@ -14,17 +14,18 @@ use problem::Problem;
 use taking::closes;
 
 // The newest of the facts f, and of the others, whose day is lent, those that may lie on a closed row below 0 with it.
-pub fn narrowed<const W: usize>(p: &Problem, f: Facts, day: &[[u32; W]; W]) -> Facts
-    requires { Within (arcs p.now) (held f) p.now.n × (f.at < places) × (p.now.n ≤ W) × (W ≤ most_events) × Held W day.now }
-    ensures { Narrowed W p.now f day.now result }
+pub fn narrowed<const W: usize>(p: &Problem, f: &Facts, day: &[[u32; W]; W]) -> Facts
+    requires { Within (arcs p.now) (held f.now) p.now.n × (f.now.at < places) × (p.now.n ≤ W) × (W ≤ most_events) × Held W day.now }
+    ensures { Narrowed W p.now f.now day.now result }
 {
     let newest = f.buffer[f.at];
     let mut kept = Facts::none();
     for i in (f.at + 1..PLACES).rev() {
         let j = f.buffer[i];
         if closes(day, &p.arcs, usize::from(newest), usize::from(j)) {
-            kept = kept.put(j);
+            kept.put(j);
         }
     }
-    kept.put(newest)
+    kept.put(newest);
+    kept
 }

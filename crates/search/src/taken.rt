@@ -13,15 +13,15 @@ use problem::{ALTERNATIVES, CLAUSES, Problem};
 // The number by which an opposite follows its alternative.
 const OPPOSITE_FROM: u8 = ALTERNATIVES as u8;
 
-// The facts of position `pick` of clause k, put before those of f.
-fn taking(p: &Problem, mut f: Facts, k: usize, pick: u8) -> Facts
-    requires { (k < p.now.m) × (pick < size_of p.now k) × (places ≤ f.at + at p.now.starts k) }
-    ensures { (held result ≡ takes (at p.now.starts k) pick (held f)) × (result.at + pick + 1 ≡ f.at) }
+// The facts of position `pick` of clause k are put before those of f.
+fn take(p: &Problem, f: &mut Facts, k: usize, pick: u8)
+    requires { (k < p.now.m) × (pick < size_of p.now k) × (places ≤ f.old.at + at p.now.starts k) }
+    ensures { (held f.new ≡ takes (at p.now.starts k) pick (held f.old)) × (f.new.at + pick + 1 ≡ f.old.at) }
 {
     let first = p.starts[k];
     let last = first + pick;
     for j in first..last {
-        f = f.put(OPPOSITE_FROM + j);
+        f.put(OPPOSITE_FROM + j);
     }
     f.put(last)
 }
@@ -33,7 +33,7 @@ pub fn facts_of(p: &Problem, s: Standing) -> Facts
 {
     let mut f = Facts::none();
     for c in 0..s.k {
-        f = taking(p, f, c, s.picks[c]);
+        take(p, &mut f, c, s.picks[c]);
     }
     f
 }
@@ -45,7 +45,7 @@ pub fn chosen_of(p: &Problem, picks: [u8; CLAUSES]) -> Facts
 {
     let mut f = Facts::none();
     for i in (0..p.m).rev() {
-        f = f.put(p.starts[i] + picks[i]);
+        f.put(p.starts[i] + picks[i]);
     }
     f
 }

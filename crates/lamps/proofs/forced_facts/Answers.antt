@@ -1,11 +1,9 @@
 -- `lamps::forced_facts` meets its contract: after clauses k on, the buffer holds their forced alternatives. Assumes nothing.
 use mathlib.Core.Path.{◌≡◌, sym, ap, ◌∙◌}
 use mathlib.Core.List.{List, ◌∷◌, map}
-use Prim.Native.Nat.{◌+◌, ◌-◌, ◌*◌, ◌<◌, ◌≤◌}
+use Prim.Native.Nat.{◌+◌, ◌-◌, ◌<◌, ◌≤◌}
 use native.Mathlib.Omega.{arith}
-use lib.ListN.{length, length-map}
-use borrow.Author.Rules.{rules}
-use Rattle.meaning.specs.Limits.{most_alternatives}
+use lib.ListN.{length-map}
 use Rattle.meaning.specs.Problem.{Alternative}
 use Rattle.problem.specs.declared.Edge.{Edge}
 use Rattle.problem.specs.Arcs.{at, arc}
@@ -24,8 +22,8 @@ loop-k-init c =
       room = omega (arith, c.none-f.ensures.1);
     }
 
-pub put-f-requires : goal.put-f-requires
-put-f-requires c = omega (arith, c.loop-k.invariant.room, c.args.p.now.laid.few)
+pub put-requires : goal.put-requires
+put-requires c = omega (arith, c.loop-k.invariant.room, c.args.p.now.laid.few)
 
 pub loop-k-preserved-then-p-k-eq1 : goal.loop-k-preserved-then-p-k-eq1
 loop-k-preserved-then-p-k-eq1 c =
@@ -33,14 +31,14 @@ loop-k-preserved-then-p-k-eq1 c =
     let k = c.loop-k.k in
     let i = c.loop-k.invariant in
     let some : 0 < k = omega arith in
-    let first = c.put-f.ensures.0 in
+    let first = c.put.ensures.0 in
     let one = c.if-p-k-eq1.true in
     let j = at p.starts (k - 1) in
     let end : at p.starts (k - 1 + 1) ≤ at p.starts p.m = p.laid.ends (k - 1 + 1) (omega arith) in
     record {
       is = ap (map (arc (arcs p))) first ∙ ap (λ (fs : List Alternative). arc (arcs p) j ∷ fs) i.is ∙ forced-taken p k some (omega arith) one;
       known = rw first (known_more (arcs p) p.n j _ (p.laid.alternative j (omega arith)) i.known);
-      room = omega (arith, c.put-f.ensures.1, i.room);
+      room = omega (arith, c.put.ensures.1, i.room);
     }
 
 pub loop-k-preserved : goal.loop-k-preserved

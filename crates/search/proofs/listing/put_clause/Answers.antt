@@ -41,7 +41,7 @@ pub loop-j-init : goal.loop-j-init
 loop-j-init g c =
     record {
       kept = none_kept _ _ _ _ _;
-      left = ap (λ (e : ℕ). dead sound (facts_in c.args.p.now c.args.f) (arcs_from (arcs c.args.p.now) (at c.args.p.now.starts c.args.d) (at c.args.p.now.starts e - at c.args.p.now.starts c.args.d))) (add-one c.args.d) ∙ c.requires.5;
+      left = ap (λ (e : ℕ). dead sound (facts_in c.args.p.now c.args.f.now) (arcs_from (arcs c.args.p.now) (at c.args.p.now.starts c.args.d) (at c.args.p.now.starts e - at c.args.p.now.starts c.args.d))) (add-one c.args.d) ∙ c.requires.5;
     }
 
 pub put_closing-requires : goal.put_closing-requires
@@ -53,11 +53,11 @@ put_closing-requires g c =
         row,
         (
           within_put p c.requires.4 c.loop-j-test.true c.requires.0.within c.put.ensures.0,
-          omega (arith, c.put.ensures.1, c.args.f.fits),
+          omega (arith, c.put.ensures.1, c.args.f.now.fits),
           subst (λ (L : List ℕ). sound (map (arc (arcs p)) L) ≡ false) (sym c.put.ensures.0) (dead-all _ _ _ _ c.loop-j-test.true c.loop-j.invariant.left).0,
           c.requires.1,
           c.requires.2,
-          subst (λ (L : List ℕ). IsDay g.row.W (map (arc (arcs p)) L) c.args.day.now) (sym (older-put c.args.f c.put.result c.loop-j.j c.put.ensures.0)) c.requires.3,
+          subst (λ (L : List ℕ). IsDay g.row.W (map (arc (arcs p)) L) c.args.day.now) (sym (older-put c.args.f.now c.put.new.self c.loop-j.j c.put.ensures.0)) c.requires.3,
           omega (arith, c.requires.6, c.from.ensures, clause-next p c.args.d c.requires.4, size-most p c.args.d c.requires.4),
         ),
       ),
@@ -66,11 +66,11 @@ put_closing-requires g c =
 pub loop-j-preserved : goal.loop-j-preserved
 loop-j-preserved g c =
     let l = c.loop-j in
-    let x = cycle (arc (arcs c.args.p.now) l.j ∷ facts_in c.args.p.now c.args.f) in
+    let x = cycle (arc (arcs c.args.p.now) l.j ∷ facts_in c.args.p.now c.args.f.now) in
     let k = c.args.rows + c.from.result in
     let put : c.put_closing.new.reasons ≡ put_row l.reasons k (row_of row_bytes x) = c.put_closing.ensures ∙ ap (λ (L : List ℕ). put_row l.reasons k (row_of row_bytes (cycle (map (arc (arcs c.args.p.now)) L)))) c.put.ensures.0 in
     record {
-      kept = subst (λ (r : List ℕ). Keeps c.args.reasons.now r c.args.rows (map (λ a. cycle (a ∷ facts_in c.args.p.now c.args.f)) (arcs_from (arcs c.args.p.now) (at c.args.p.now.starts c.args.d) (l.j + 1 - at c.args.p.now.starts c.args.d)))) (sym put) (keep-cycle _ _ _ _ _ _ _ _ l.invariant.kept (omega arith) (omega (arith, c.from.ensures)) (omega arith));
+      kept = subst (λ (r : List ℕ). Keeps c.args.reasons.now r c.args.rows (map (λ a. cycle (a ∷ facts_in c.args.p.now c.args.f.now)) (arcs_from (arcs c.args.p.now) (at c.args.p.now.starts c.args.d) (l.j + 1 - at c.args.p.now.starts c.args.d)))) (sym put) (keep-cycle _ _ _ _ _ _ _ _ l.invariant.kept (omega arith) (omega (arith, c.from.ensures)) (omega arith));
       left = (dead-all _ _ _ _ c.loop-j-test.true l.invariant.left).1;
     }
 
@@ -79,4 +79,4 @@ returns g c =
     let l = c.loop-j in
     let up = clause-next c.args.p.now c.args.d c.requires.4 in
     let over : at c.args.p.now.starts (c.args.d + 1) ≡ l.j = omega (arith, up, l.auto.j-end (omega (arith, up))) in
-    subst (λ (e : ℕ). Keeps c.args.reasons.now l.reasons c.args.rows (map (λ a. cycle (a ∷ facts_in c.args.p.now c.args.f)) (arcs_from (arcs c.args.p.now) (at c.args.p.now.starts c.args.d) (e - at c.args.p.now.starts c.args.d)))) (sym over ∙ ap (at c.args.p.now.starts) (add-one c.args.d)) l.invariant.kept
+    subst (λ (e : ℕ). Keeps c.args.reasons.now l.reasons c.args.rows (map (λ a. cycle (a ∷ facts_in c.args.p.now c.args.f.now)) (arcs_from (arcs c.args.p.now) (at c.args.p.now.starts c.args.d) (e - at c.args.p.now.starts c.args.d)))) (sym over ∙ ap (at c.args.p.now.starts) (add-one c.args.d)) l.invariant.kept

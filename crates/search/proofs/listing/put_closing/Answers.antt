@@ -1,7 +1,6 @@
 -- `listing::put_closing` meets its contract: the facts that are kept have the reason of all. Assumes nothing.
 use mathlib.Core.Path.{sym, ap, ◌∙◌}
 use native.Mathlib.Omega.{arith}
-use borrow.Author.Rules.{rules}
 use borrow.Author.Tests.{tests}
 use Rattle.taking.proofs.Taking.{table-small}
 use Rattle.search.specs.Listing.{put_row}
@@ -16,12 +15,12 @@ narrowed-requires g c =
 
 pub reason-requires : goal.reason-requires
 reason-requires g c =
-    let kept = serves g.row.W c.args.p.now c.args.f c.args.day.now c.narrowed.result (search rules) c.requires.1 c.requires.0 c.requires.2 c.requires.5 c.narrowed.ensures in
+    let kept = serves g.row.W c.args.p.now c.args.f.now c.args.day.now c.narrowed.result c.args.f.now.full c.requires.1 c.requires.0 c.requires.2 c.requires.5 c.narrowed.ensures in
     (kept.within, kept.unsound, kept.some, kept.old)
 
 pub returns-then-has_room : goal.returns-then-has_room
 returns-then-has_room g c =
-    let kept = serves g.row.W c.args.p.now c.args.f c.args.day.now c.narrowed.result (search rules) c.requires.1 c.requires.0 c.requires.2 c.requires.5 c.narrowed.ensures in
+    let kept = serves g.row.W c.args.p.now c.args.f.now c.args.day.now c.narrowed.result c.args.f.now.full c.requires.1 c.requires.0 c.requires.2 c.requires.5 c.narrowed.ensures in
     c.put_row.ensures ∙ ap (put_row c.args.reasons.now c.args.rows) (c.reason.ensures ∙ kept.row)
 
 pub returns-else-has_room : goal.returns-else-has_room

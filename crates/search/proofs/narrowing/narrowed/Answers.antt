@@ -25,7 +25,7 @@ fact-arc p f w k long within wide after below =
 pub closes-requires : goal.closes-requires
 closes-requires g c =
     let p = c.args.p.now in
-    let f = c.args.f in
+    let f = c.args.f.now in
     let (all, row) = table-small g.row.W c.requires.3 in (
       all,
       (
@@ -41,11 +41,11 @@ closes-requires g c =
 
 pub loop-i-preserved-then-closes : goal.loop-i-preserved-then-closes
 loop-i-preserved-then-closes g c =
-    looking-kept g.row.W c.args.p.now c.args.f c.args.day.now (search rules) c.loop-i.kept c.loop-i.i (c.loop-i.i - 1) (omega arith) (omega arith) (omega arith) c.loop-i.invariant c.put-kept.result c.put-kept.ensures.0 c.put-kept.ensures.1
+    looking-kept g.row.W c.args.p.now c.args.f.now c.args.day.now (search rules) c.loop-i.kept c.loop-i.i (c.loop-i.i - 1) (omega arith) (omega arith) (omega arith) c.loop-i.invariant c.put.new.self c.put.ensures.0 c.put.ensures.1
 
 pub put-requires : goal.put-requires
 put-requires g c = omega (arith, c.loop-i.invariant.room, c.loop-i.invariant.after)
 
 pub returns : goal.returns
 returns g c =
-    looked g.row.W c.args.p.now c.args.f c.args.day.now (search rules) c.loop-i.kept c.put.result c.loop-i.i (omega (arith, c.loop-i.invariant.after)) c.loop-i.invariant c.put.ensures.0
+    looked g.row.W c.args.p.now c.args.f.now c.args.day.now (search rules) c.loop-i.kept c.put-2.new.self c.loop-i.i (omega (arith, c.loop-i.invariant.after)) c.loop-i.invariant c.put-2.ensures.0

@@ -20,8 +20,8 @@ loop-i-preserved c =
     let whole : i - 1 + 1 ≡ i = omega arith in
     record {
       chosen =
-          c.put-f.ensures.0
+          c.put.ensures.0
           ∙ ap (λ (L : List ℕ). (at c.args.p.now.starts (i - 1) + at c.args.picks (i - 1)) ∷ L) (c.loop-i.invariant.chosen ∙ ap (λ (d : ℕ). chosen_facts c.args.p.now.starts d (drop d (take c.args.p.now.m c.args.picks))) (sym whole))
           ∙ sym (chosen-front c.args.p.now.starts c.args.picks c.args.p.now.m (i - 1) (omega arith) (picks-enough c.requires (search rules)));
-      room = omega (arith, c.put-f.ensures.1);
+      room = omega (arith, c.put.ensures.1);
     }

@@ -14,7 +14,7 @@ use problem::{ALTERNATIVES, CLAUSES, Problem};
 const OPPOSITE_FROM: u8 = ALTERNATIVES as u8;
 
 // The facts of position `pick` of clause k are put before those of f.
-fn take(p: &Problem, f: &mut Facts, k: usize, pick: u8)
+fn put_position(p: &Problem, f: &mut Facts, k: usize, pick: u8)
     requires { (k < p.now.m) × (pick < size_of p.now k) × (places ≤ f.old.at + at p.now.starts k) }
     ensures { (held f.new ≡ takes (at p.now.starts k) pick (held f.old)) × (f.new.at + pick + 1 ≡ f.old.at) }
 {
@@ -33,7 +33,7 @@ pub fn facts_of(p: &Problem, s: Standing) -> Facts
 {
     let mut f = Facts::none();
     for c in 0..s.k {
-        take(p, &mut f, c, s.picks[c]);
+        put_position(p, &mut f, c, s.picks[c]);
     }
     f
 }

@@ -18,10 +18,10 @@ loop-c-preserved c =
     let next = clause-next c.args.p.now l.c (omega (arith, c.requires.few)) in
     record {
       same =
-          ap (standing_facts c.args.p.now.starts (l.c + 1) (drop (l.c + 1) (take s.k s.picks))) c.take.ensures.0
+          ap (standing_facts c.args.p.now.starts (l.c + 1) (drop (l.c + 1) (take s.k s.picks))) c.put_position.ensures.0
           ∙ sym (standing-step c.args.p.now.starts s.picks (held l.f) s.k l.c (omega arith) (picks-enough c.requires (search rules)))
           ∙ l.invariant.same;
-      room = omega (arith, c.take.ensures.1);
+      room = omega (arith, c.put_position.ensures.1);
     }
 
 pub returns : goal.returns

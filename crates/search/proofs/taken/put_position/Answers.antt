@@ -1,4 +1,4 @@
--- `search::taken::take` meets its contract: what is still to be taken, put before what is held, stays the same. Assumes nothing.
+-- `search::taken::put_position` meets its contract: what is still to be taken, put before what is held, stays the same. Assumes nothing.
 use mathlib.Core.Path.{◌≡◌, sym, ap, ◌∙◌}
 use Prim.Native.Nat.{ℕ, ◌+◌, ◌-◌}
 use native.Mathlib.Omega.{arith}
@@ -6,7 +6,7 @@ use Rattle.problem.specs.Arcs.{at}
 use Rattle.held.specs.Held.{held}
 use Rattle.search.specs.Standing.{takes}
 use Rattle.search.proofs.Numbers.{takes_step, takes-last}
-use Rattle.search.proofs.taken.take.Goals as goal
+use Rattle.search.proofs.taken.put_position.Goals as goal
 
 pub loop-j-preserved : goal.loop-j-preserved
 loop-j-preserved c =

@@ -1,8 +1,8 @@
--- `search::taken::take` meets its contract: what is still to be taken, put before what is held, stays the same. Assumes nothing.
+-- `search::taken::put_position` meets its contract: what is still to be taken, put before what is held, stays the same. Assumes nothing.
 use Rattle.std.proofs.Common.{◌≡◌, ◌+◌, ◌-◌}
 use Rattle.held.specs.Held.{held}
 use Rattle.search.specs.Standing.{takes}
-use Rattle.search.proofs.taken.take.Given as goal
+use Rattle.search.proofs.taken.put_position.Given as goal
 
 abbrev pub invariant-loop-j : goal.invariant-loop-j
 invariant-loop-j l =
